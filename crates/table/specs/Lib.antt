@@ -1,0 +1,4 @@
+pub mod Layouts
+pub mod Rows
+pub mod Questions
+pub mod Stacks

@@ -1,0 +1,7 @@
+// Rule tables: rows of words, what loading asks of them, and what a run of them needs.
+pub mod layout;
+pub mod needs;
+pub mod program;
+pub mod refusal;
+pub mod row;
+pub mod words;

@@ -1,0 +1,16 @@
+// The program place.
+use crate::needs::Needs;
+ghost use mathlib.Core.Path.{_≡_};
+ghost use denote.Ref.{now};
+ghost use Rattle.table.specs.Questions.{Loaded};
+ghost use Rattle.table.specs.Rows.{last-row};
+ghost use Rattle.table.specs.Stacks.{needs-at};
+
+/// A place for a program: it always holds a loaded table.
+#[derive(Drop)]
+pub struct Program<'a> {
+    words: &'a [u32],
+    needs: Needs,
+    ghost loaded: { ∥ Loaded (now words) ∥₁ },
+    ghost exact: { needs ≡ needs-at (now words) (last-row (now words)) },
+}
