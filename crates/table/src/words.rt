@@ -1,7 +1,7 @@
 // The four words of a row, where they lie in a table.
 
-ghost use mathlib.Core.Path.{_≡_};
 ghost use Prim.Native.Nat.{_<_};
+ghost use mathlib.Core.Path.{_≡_};
 ghost use Rattle.table.specs.Rows.{rows, words-at};
 
 /// The words of one row.
