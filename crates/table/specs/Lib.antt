@@ -1,4 +1,7 @@
 pub mod Layouts
-pub mod Rows
+pub mod Loading
+pub mod Parts
+pub mod Places
 pub mod Questions
+pub mod Rows
 pub mod Stacks

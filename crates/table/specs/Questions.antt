@@ -62,25 +62,23 @@ In-range Relation w = w < 3
 In-range Truth w = w < 2
 In-range (Part s) w = Unit {0}
 
+-- Q holds of a word that names a part, with the part's sort
+abbrev pub On-part : (Sort → ℕ → Type 0) → Field → ℕ → Type 0
+On-part Q Unused w = Unit {0}
+On-part Q Number w = Unit {0}
+On-part Q Location w = Unit {0}
+On-part Q Operator w = Unit {0}
+On-part Q Relation w = Unit {0}
+On-part Q Truth w = Unit {0}
+On-part Q (Part s) w = Q s w
+
 -- question 5, asked of the row p
 abbrev pub Lower : ℕ → Field → ℕ → Type 0
-Lower p Unused w = Unit {0}
-Lower p Number w = Unit {0}
-Lower p Location w = Unit {0}
-Lower p Operator w = Unit {0}
-Lower p Relation w = Unit {0}
-Lower p Truth w = Unit {0}
-Lower p (Part s) w = w < p
+Lower p = On-part (λ s x. x < p)
 
 -- question 6
 abbrev pub Sorted : List ℕ → Field → ℕ → Type 0
-Sorted table Unused w = Unit {0}
-Sorted table Number w = Unit {0}
-Sorted table Location w = Unit {0}
-Sorted table Operator w = Unit {0}
-Sorted table Relation w = Unit {0}
-Sorted table Truth w = Unit {0}
-Sorted table (Part s) w = sort-at table w ≡ Some s
+Sorted table = On-part (λ s x. sort-at table x ≡ Some s)
 
 -- each of a row's three words passes
 abbrev pub Each : (Field → ℕ → Type 0) → Words → Layout → Type 0
@@ -122,3 +120,21 @@ pub record First-no (table : List ℕ) (e : Refusal) : Type 0 where
   pub asked : Asked table e
   pub answer : Yes table e → ⊥
   pub before : (d : Refusal) → Asked table d → turn d < turn e → Yes table d
+
+-- The questions of one row, in a row's own words.
+
+-- the row p gets a yes to 2, 3, 4, 5 and 6
+abbrev pub Row-passes : List ℕ → ℕ → Type 0
+Row-passes table p = Yes table (no.Kind p) × Yes table (no.Unused p) × Yes table (no.Range p) × Yes table (no.Forward p) × Yes table (no.Mismatch p)
+
+-- the row p gets its first no as the refusal says
+abbrev pub Row-refused : List ℕ → ℕ → Refusal → Type 0
+Row-refused table p no.Length = ⊥
+Row-refused table p (no.Kind q) = (q ≡ p) × (Yes table (no.Kind p) → ⊥)
+Row-refused table p (no.Unused q) = (q ≡ p) × Yes table (no.Kind p) × (Yes table (no.Unused p) → ⊥)
+Row-refused table p (no.Range q) = (q ≡ p) × Yes table (no.Kind p) × Yes table (no.Unused p) × (Yes table (no.Range p) → ⊥)
+Row-refused table p (no.Forward q) =
+    (q ≡ p) × Yes table (no.Kind p) × Yes table (no.Unused p) × Yes table (no.Range p) × (Yes table (no.Forward p) → ⊥)
+Row-refused table p (no.Mismatch q) =
+    (q ≡ p) × Yes table (no.Kind p) × Yes table (no.Unused p) × Yes table (no.Range p) × Yes table (no.Forward p) × (Yes table (no.Mismatch p) → ⊥)
+Row-refused table p (no.NotCommand q) = ⊥

@@ -6,7 +6,9 @@ ghost use Rattle.table.specs.Questions.{Loaded};
 ghost use Rattle.table.specs.Rows.{last-row};
 ghost use Rattle.table.specs.Stacks.{needs-at};
 
-/// A place for a program: it always holds a loaded table.
+mod place;
+
+/// A place for a program. It holds a loaded table at all times, with the needs of its last row.
 #[derive(Drop)]
 pub struct Program<'a> {
     words: &'a [u32],

@@ -1,0 +1,21 @@
+-- The rows that a row names, each with the sort that is asked of it.
+use Prim.Native.Nat.{ℕ}
+use Rattle.table.specs.declared.layout.Sort.{Sort}
+use Rattle.table.specs.declared.layout.Sort.the-variants.{Integer, Boolean, Command}
+use Rattle.table.specs.declared.row.Row.{Row}
+use Rattle.table.specs.declared.row.Row.the-variants as row
+
+-- Q holds of each part, with its sort
+abbrev pub Each-part : (Sort → ℕ → Type 0) → Row → Type 0
+Each-part Q (row.Number n) = Unit {0}
+Each-part Q (row.Contents l) = Unit {0}
+Each-part Q (row.Arithmetic o x y) = Q Integer x × Q Integer y
+Each-part Q (row.Truth t) = Unit {0}
+Each-part Q (row.Comparison r x y) = Q Integer x × Q Integer y
+Each-part Q (row.Not x) = Q Boolean x
+Each-part Q (row.And x y) = Q Boolean x × Q Boolean y
+Each-part Q row.Skip = Unit {0}
+Each-part Q (row.Assignment l x) = Q Integer x
+Each-part Q (row.Sequence x y) = Q Command x × Q Command y
+Each-part Q (row.Choice b x y) = Q Boolean b × Q Command x × Q Command y
+Each-part Q (row.Loop b x) = Q Boolean b × Q Command x

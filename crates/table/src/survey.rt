@@ -1,0 +1,69 @@
+// One pass over a table, from row 0 upward: every question of loading, and the needs of every row.
+use crate::check::check_row;
+use crate::check::has_sort;
+use crate::layout::Sort;
+use crate::needs::Needs;
+use crate::needs::needs_of;
+use crate::refusal::Refusal;
+use crate::row::decode;
+use crate::words::words_at;
+ghost use Prim.Native.Nat.{ℕ, _<_};
+ghost use mathlib.Core.Path.{_≡_};
+ghost use lib.ListN.{length};
+ghost use Rattle.std.specs.Orderings.{Decides};
+ghost use Rattle.table.specs.declared.refusal.Refusal.the-variants.{Length};
+ghost use Rattle.table.specs.Loading.{Answers};
+ghost use Rattle.table.specs.Questions.{Yes, Row-passes};
+ghost use Rattle.table.specs.Rows.{rows, row-at};
+ghost use Rattle.table.specs.Stacks.{Small, known-of, of-row};
+
+// The rows that a table has at most.
+const MAX_ROWS: usize = 4096;
+
+// Question 1.
+fn length_passes(table: &[u32]) -> bool
+    ensures { λ r. ⌜ Decides r (Yes (now (table .entry)) Length) ⌝ }
+{
+    let words = table.len();
+    words % 4 == 0 && 4 <= words && words <= 4 * MAX_ROWS
+}
+
+// The needs of the row `p`, which has passed, where `known` has those of the rows below it.
+fn row_needs(table: &[u32], p: u32, known: &[Needs]) -> Needs
+    requires within { ⌜ p < rows (now table) ⌝ ∗ ⌜ p < length (now known) ⌝ }
+    requires passes { ⌜ Row-passes (now table) p ⌝ }
+    requires small { ⌜ ((x : ℕ) → Small (known-of (now known) x)) ⌝ }
+    ensures { λ r. ⌜ r ≡ of-row (known-of (now (known .entry))) (row-at (now (table .entry)) p) ⌝ }
+{
+    match decode(words_at(table, p)) {
+        Some(row) => needs_of(row, known),
+        None => Needs {
+            control: 0,
+            results: 0,
+        },
+    }
+}
+
+// Puts the questions in their order. The needs of the rows stand in a list, since many rows may
+// share one: a recursion over the rows would work them out anew for each that names them.
+pub(crate) fn survey(table: &[u32]) -> Result<Needs, Refusal>
+    ensures { λ r. ⌜ Answers (now (table .entry)) r ⌝ }
+{
+    if !length_passes(table) {
+        return Err(Refusal::Length);
+    }
+    let count = (table.len() / 4) as u32;
+    let mut known = [Needs {
+        control: 0,
+        results: 0,
+    }; MAX_ROWS];
+    for p in 0..count {
+        check_row(table, p)?;
+        known[p as usize] = row_needs(table, p, &known);
+    }
+    let last = count - 1;
+    if !has_sort(table, last, Sort::Command) {
+        return Err(Refusal::NotCommand(last));
+    }
+    Ok(known[last as usize])
+}
