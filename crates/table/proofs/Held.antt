@@ -17,10 +17,12 @@ use Rattle.std.specs.contracts.option.Option as option
 use Rattle.table.specs.contracts.layout.Sort as sort
 use Rattle.table.specs.declared.layout.Sort.{Sort}
 use Rattle.table.specs.declared.layout.Sort.the-variants.{Command}
+use Rattle.table.specs.declared.program.Program.{Program}
 use Rattle.table.specs.declared.refusal.Refusal.{Refusal}
 use Rattle.table.specs.declared.refusal.Refusal.the-variants as no
 use Rattle.table.specs.declared.words.Words.{Words}
 use Rattle.table.specs.Layouts.{layout-of}
+use Rattle.table.specs.Places.{table-of}
 use Rattle.table.specs.Questions.{Yes, Loaded, Of-row, Each, Clear, In-range, On-part, Lower, Sorted, sort-at}
 use Rattle.table.specs.Rows.{words-at}
 
@@ -87,3 +89,7 @@ yes-once table (no.NotCommand p) = sort-once (sort-at table p) (Some Command)
 
 pub loaded : (table : List ℕ) → ∥ Loaded table ∥₁ → Loaded table
 loaded table h = ∥∥₁-elim h (Π-prop (λ e. Π-prop (λ _. yes-once table e))) (λ l. l)
+
+-- the table in a place is loaded
+pub held : (place : Program) → Loaded (table-of place)
+held place = loaded (table-of place) (place .loaded)

@@ -14,23 +14,27 @@ use Rattle.table.specs.Questions.{Row-passes, On-part, Of-row, sort-at}
 use Rattle.table.specs.Rows.{rows, row-at, words-at, decoded, sort-of}
 use Rattle.table.proofs.EachKind.{Spelt, passing-spells}
 
--- what follows of each part
+-- what follows of each part from two facts
+pub each-both : (Q R P : Sort → ℕ → Type 0) → ((s : Sort) (x : ℕ) → Q s x → R s x → P s x) → (r : Row) → Each-part Q r → Each-part R r → Each-part P r
+each-both Q R P f (row.Number _) q t = tt
+each-both Q R P f (row.Contents _) q t = tt
+each-both Q R P f (row.Arithmetic o x y) q t = (f _ x (q .0) (t .0), f _ y (q .1) (t .1))
+each-both Q R P f (row.Truth _) q t = tt
+each-both Q R P f (row.Comparison o x y) q t = (f _ x (q .0) (t .0), f _ y (q .1) (t .1))
+each-both Q R P f (row.Not x) q t = f _ x q t
+each-both Q R P f (row.And x y) q t = (f _ x (q .0) (t .0), f _ y (q .1) (t .1))
+each-both Q R P f row.Skip q t = tt
+each-both Q R P f (row.Assignment l x) q t = f _ x q t
+each-both Q R P f (row.Sequence x y) q t = (f _ x (q .0) (t .0), f _ y (q .1) (t .1))
+each-both Q R P f (row.Choice b x y) q t = (f _ b (q .0) (t .0), f _ x (q .1) (t .1), f _ y (q .2) (t .2))
+each-both Q R P f (row.Loop b x) q t = (f _ b (q .0) (t .0), f _ x (q .1) (t .1))
+
+-- what follows of each part from one
 pub each-part : (Q P : Sort → ℕ → Type 0) → ((s : Sort) (x : ℕ) → Q s x → P s x) → (r : Row) → Each-part Q r → Each-part P r
-each-part Q P f (row.Number _) q = tt
-each-part Q P f (row.Contents _) q = tt
-each-part Q P f (row.Arithmetic o x y) q = (f _ x (q .0), f _ y (q .1))
-each-part Q P f (row.Truth _) q = tt
-each-part Q P f (row.Comparison o x y) q = (f _ x (q .0), f _ y (q .1))
-each-part Q P f (row.Not x) q = f _ x q
-each-part Q P f (row.And x y) q = (f _ x (q .0), f _ y (q .1))
-each-part Q P f row.Skip q = tt
-each-part Q P f (row.Assignment l x) q = f _ x q
-each-part Q P f (row.Sequence x y) q = (f _ x (q .0), f _ y (q .1))
-each-part Q P f (row.Choice b x y) q = (f _ b (q .0), f _ x (q .1), f _ y (q .2))
-each-part Q P f (row.Loop b x) q = (f _ b (q .0), f _ x (q .1))
+each-part Q P f r q = each-both Q Q P (λ s x h _. f s x h) r q q
 
 module _ (table : List ℕ) (p : ℕ) (passes : Row-passes table p) where
-  spelt-at : (Q : Sort → ℕ → Type 0) → Spelt Q (words-at table p)
+  pub spelt-at : (Q : Sort → ℕ → Type 0) → Spelt Q (words-at table p)
   spelt-at Q = passing-spells Q (words-at table p) (passes .0) (passes .2)
 
   -- what holds of each word that names a part holds of each part

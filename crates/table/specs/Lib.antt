@@ -5,3 +5,4 @@ pub mod Places
 pub mod Questions
 pub mod Rows
 pub mod Stacks
+pub mod WellFormed

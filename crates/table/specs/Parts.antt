@@ -1,9 +1,13 @@
 -- The rows that a row names, each with the sort that is asked of it.
-use Prim.Native.Nat.{ℕ}
+use Prim.Native.Nat.{ℕ, _<_}
+use mathlib.Core.Path.{_≡_}
+use mathlib.Core.List.{List}
+use Rattle.std.specs.declared.option.Option.the-variants.{Some}
 use Rattle.table.specs.declared.layout.Sort.{Sort}
 use Rattle.table.specs.declared.layout.Sort.the-variants.{Integer, Boolean, Command}
 use Rattle.table.specs.declared.row.Row.{Row}
 use Rattle.table.specs.declared.row.Row.the-variants as row
+use Rattle.table.specs.Rows.{row-at, sort-of}
 
 -- Q holds of each part, with its sort
 abbrev pub Each-part : (Sort → ℕ → Type 0) → Row → Type 0
@@ -19,3 +23,11 @@ Each-part Q (row.Assignment l x) = Q Integer x
 Each-part Q (row.Sequence x y) = Q Command x × Q Command y
 Each-part Q (row.Choice b x y) = Q Boolean b × Q Command x × Q Command y
 Each-part Q (row.Loop b x) = Q Boolean b × Q Command x
+
+-- the table has a row x, and it is of that sort
+abbrev pub Has-sort : List ℕ → Sort → ℕ → Type 0
+Has-sort table s x = (r : Row) × (row-at table x ≡ Some r) × (sort-of r ≡ s)
+
+-- each row that the row p names lies below it and is of the sort that is asked
+abbrev pub Sound-parts : List ℕ → ℕ → Row → Type 0
+Sound-parts table p = Each-part (λ s x. (x < p) × Has-sort table s x)

@@ -1,5 +1,5 @@
 -- How many places a row's run needs on the control stack and on the results stack.
-use Prim.Native.Nat.{ℕ, zero, suc, _+_, _≤_, max}
+use Prim.Native.Nat.{ℕ, zero, suc, _+_, _<_, _≤_, max}
 use mathlib.Core.Path.{_≡_}
 use mathlib.Core.Bool.{cond}
 use mathlib.Core.List.{List}
@@ -10,7 +10,7 @@ use Rattle.std.specs.declared.option.Option.the-variants.{Some, None}
 use Rattle.table.specs.declared.needs.Needs.{Needs}
 use Rattle.table.specs.declared.row.Row.{Row}
 use Rattle.table.specs.declared.row.Row.the-variants as row
-use Rattle.table.specs.Rows.{row-at}
+use Rattle.table.specs.Rows.{rows, row-at}
 
 -- on the control stack, from what the parts need there
 abbrev pub control-need : (ℕ → ℕ) → Row → ℕ
@@ -73,3 +73,8 @@ needs-below table (suc n) p = cond (eqb p n) (of-row (needs-below table n) (row-
 -- the needs of the row p: the one way to meet the equations of a loaded table
 abbrev pub needs-at : List ℕ → ℕ → Needs
 needs-at table p = needs-below table (suc p) p
+
+-- n meets every row's equation, and nothing else does
+pub record Settled (table : List ℕ) (n : ℕ → Needs) : Type 0 where
+  pub meets : Meets-needs table n
+  pub only : (f : ℕ → Needs) → Meets-needs table f → (p : ℕ) → p < rows table → f p ≡ n p

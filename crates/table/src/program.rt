@@ -1,9 +1,10 @@
 // The program place.
 use crate::needs::Needs;
+ghost use Prim.Native.Nat.{_≤_};
 ghost use mathlib.Core.Path.{_≡_};
 ghost use denote.Ref.{now};
 ghost use Rattle.table.specs.Questions.{Loaded};
-ghost use Rattle.table.specs.Rows.{last-row};
+ghost use Rattle.table.specs.Rows.{rows, last-row};
 ghost use Rattle.table.specs.Stacks.{needs-at};
 
 mod place;
@@ -14,5 +15,6 @@ pub struct Program<'a> {
     words: &'a [u32],
     needs: Needs,
     ghost loaded: { ∥ Loaded (now words) ∥₁ },
+    ghost sized: { (1 ≤ rows (now words)) × (rows (now words) ≤ 4096) },
     ghost exact: { needs ≡ needs-at (now words) (last-row (now words)) },
 }

@@ -1,8 +1,9 @@
 // A row of a rule table, decoded.
 use crate::layout::Sort;
 use crate::words::Words;
+use crate::words::words_at;
 ghost use mathlib.Core.Path.{_≡_};
-ghost use Rattle.table.specs.Rows.{sort-of, operator-of, relation-of, decoded};
+ghost use Rattle.table.specs.Rows.{sort-of, operator-of, relation-of, decoded, row-at};
 
 /// The operators of an arithmetic row.
 #[derive(Clone, Copy, PartialEq, Eq, Debug)]
@@ -161,5 +162,16 @@ pub fn decode(words: Words) -> Option<Row>
             body: b,
         }),
         _ => None,
+    }
+}
+
+// The row `p` of the table, where it has one and its words spell one.
+pub(crate) fn row_at(table: &[u32], p: u32) -> Option<Row>
+    ensures { λ r. ⌜ r ≡ row-at (now (table .entry)) p ⌝ }
+{
+    if (p as usize) < table.len() / 4 {
+        decode(words_at(table, p))
+    } else {
+        None
     }
 }

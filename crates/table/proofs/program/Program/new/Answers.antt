@@ -1,6 +1,11 @@
+use native.Mathlib.Omega.{arith}
 use mathlib.Core.Path.{refl}
-use Rattle.table.proofs.Held.{skip-loaded}
+use Rattle.table.proofs.Held.{skip-table, skip-loaded}
+use Rattle.table.proofs.Laws.{well-formed}
 use Rattle.table.proofs.program.Program.new.Needs as need
 
 pub ghost-result : need.ghost-result
-ghost-result c = (∣ skip-loaded ∣₁, (refl, tt))
+ghost-result c = (∣ skip-loaded ∣₁, ((omega arith, omega arith), (refl, tt)))
+
+pub returns : need.returns
+returns c = record { loaded = skip-loaded; formed = well-formed skip-table skip-loaded; needs = refl; holds = refl }

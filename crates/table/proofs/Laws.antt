@@ -1,0 +1,125 @@
+-- What the layers above may use of a loaded table, without opening what loading asks.
+use Prim.Native.Nat.{ℕ, zero, suc, _+_, _<_, _≤_, max}
+use native.Mathlib.Omega.{arith}
+use native.Mathlib.Numerals.{add-one}
+use mathlib.Core.Path.{_≡_, refl, sym, ap, subst, _∙_}
+use mathlib.Core.Bool.{true, false, cond}
+use mathlib.Core.List.{List}
+use mathlib.Core.Logic.{⊎-elim}
+use lib.Dec.{ltb, eqb}
+use Rattle.std.proofs.shelf.Tests.{cases-bool, cases-eq, cases-lt, lt-ltb, ltb-true, cond-true, cond-false, eq-eqb, ne-eqb}
+use Rattle.std.specs.declared.option.Option.{Option}
+use Rattle.std.specs.declared.option.Option.the-variants.{Some, None}
+use Rattle.std.specs.Options.{Cases as BySome, mapped}
+use Rattle.table.specs.declared.layout.Sort.{Sort}
+use Rattle.table.specs.declared.layout.Sort.the-variants.{Command}
+use Rattle.table.specs.declared.needs.Needs.{Needs}
+use Rattle.table.specs.declared.refusal.Refusal.the-variants as no
+use Rattle.table.specs.declared.row.Row.{Row}
+use Rattle.table.specs.declared.row.Row.the-variants as row
+use Rattle.table.specs.Layouts.{layout-of}
+use Rattle.table.specs.Parts.{Each-part, Has-sort, Sound-parts}
+use Rattle.table.specs.Questions.{Yes, Loaded, Row-passes, sort-at}
+use Rattle.table.specs.Rows.{rows, last-row, row-at, words-at, decoded, sort-of}
+use Rattle.table.specs.Stacks.{needed, of-row, needs-below, needs-at, Meets-needs, Settled}
+use Rattle.table.specs.WellFormed.{Well-formed}
+use Rattle.table.proofs.EachKind.{Spelt}
+use Rattle.table.proofs.Passing.{each-part, each-both, parts-lower, parts-sorted, row-within, spelt-at}
+
+module _ (table : List ℕ) (loaded : Loaded table) where
+  passes : (p : ℕ) → p < rows table → Row-passes table p
+  passes p h = (loaded (no.Kind p) h, loaded (no.Unused p) h, loaded (no.Range p) h, loaded (no.Forward p) h, loaded (no.Mismatch p) h)
+
+  -- every row of the table decodes
+  pub row-there : (p : ℕ) → p < rows table → (r : Row) × (row-at table p ≡ Some r)
+  row-there p h =
+      let s = spelt-at table p (passes p h) (λ _ _. Unit {0}) in (s .spelt, row-within table p h ∙ s .spells)
+
+  -- and no other
+  pub row-inside : (p : ℕ) (r : Row) → row-at table p ≡ Some r → p < rows table
+  row-inside p r e =
+      ⊎-elim (ltb-true p (rows table))
+      (λ b. let n = cond-false (ltb p (rows table)) (decoded (words-at table p)) None b in let z : _≡_ {A = ℕ} 0 1 = cc in absurd (omega arith))
+      (cases-bool (ltb p (rows table)))
+
+  has-sort : (s : Sort) (x : ℕ) → x < rows table → sort-at table x ≡ Some s → Has-sort table s x
+  has-sort s x h e =
+      let t = spelt-at table x (passes x h) (λ _ _. Unit {0}) in
+      let k = t .sorted in
+      let same : sort-of (t .spelt) ≡ s = cc in
+      (t .spelt, row-within table x h ∙ t .spells, same)
+
+  -- the rows that a row names lie below it and are of the sorts that it asks
+  pub parts-sound : (p : ℕ) (r : Row) → row-at table p ≡ Some r → Sound-parts table p r
+  parts-sound p r e =
+      let h = row-inside p r e in
+      let d : decoded (words-at table p) ≡ Some r = sym (row-within table p h) ∙ e in
+      each-both (λ s x. x < p) (λ s x. sort-at table x ≡ Some s) (λ s x. (x < p) × Has-sort table s x)
+      (λ s x lt k. (lt, has-sort s x (omega arith) k)) r
+      (parts-lower table p (passes p h) r d) (parts-sorted table p (passes p h) r d)
+
+  -- the last row is there and is a command
+  pub last-there : last-row table + 1 ≡ rows table
+  last-there = let h = loaded no.Length tt in omega arith
+
+  pub last-command : Has-sort table Command (last-row table)
+  last-command = has-sort Command (last-row table) (let h = last-there in omega arith) (loaded (no.NotCommand (last-row table)) last-there)
+
+-- a row needs the same where its parts do
+needed-same : (f g : ℕ → Needs) (r : Row) → Each-part (λ _ x. f x ≡ g x) r → needed f r ≡ needed g r
+needed-same f g (row.Number _) q = refl
+needed-same f g (row.Contents _) q = refl
+needed-same f g (row.Arithmetic o x y) q = cc
+needed-same f g (row.Truth _) q = refl
+needed-same f g (row.Comparison o x y) q = cc
+needed-same f g (row.Not x) q = cc
+needed-same f g (row.And x y) q = cc
+needed-same f g row.Skip q = refl
+needed-same f g (row.Assignment l x) q = cc
+needed-same f g (row.Sequence x y) q = cc
+needed-same f g (row.Choice b x y) q = cc
+needed-same f g (row.Loop b x) q = cc
+
+-- the needs of a row are worked out once, when its turn comes
+needs-stay : (table : List ℕ) (n p : ℕ) → p < n → needs-below table n p ≡ needs-at table p
+needs-stay table zero p h = absurd (omega arith)
+needs-stay table (suc n) p h =
+    ⊎-elim (λ e. subst (λ i. needs-below table (suc i) p ≡ needs-at table p) e refl)
+    (λ ne. cond-false (eqb p n) (of-row (needs-below table n) (row-at table n)) (needs-below table n p) (ne-eqb p n ne) ∙ needs-stay table n p (omega arith))
+    (cases-eq p n)
+
+module _ (table : List ℕ) (loaded : Loaded table) where
+  part-lower : (p : ℕ) (r : Row) → row-at table p ≡ Some r → Each-part (λ _ x. x < p) r
+  part-lower p r e = each-part (λ s x. (x < p) × Has-sort table s x) (λ _ x. x < p) (λ s x q. q .0) r (parts-sound table loaded p r e)
+
+  -- the needs of a loaded table meet the equation of every row
+  pub needs-meet : Meets-needs table (needs-at table)
+  needs-meet p r e =
+      cond-true (eqb p p) (of-row (needs-below table p) (row-at table p)) (needs-below table p p) (eq-eqb p p refl)
+      ∙ ap (of-row (needs-below table p)) e
+      ∙ needed-same (needs-below table p) (needs-at table) r
+      (each-part (λ _ x. x < p) (λ _ x. needs-below table p x ≡ needs-at table x) (λ s x h. needs-stay table p x h) r (part-lower p r e))
+
+  module _ (f : ℕ → Needs) (meets : Meets-needs table f) where
+    agree : (n p : ℕ) → p < n → p < rows table → f p ≡ needs-at table p
+    agree zero p h within = absurd (omega arith)
+    agree (suc n) p h within =
+        let r = row-there table loaded p within in
+        meets p (r .0) (r .1)
+        ∙ needed-same f (needs-at table) (r .0)
+        (each-part (λ _ x. x < p) (λ _ x. f x ≡ needs-at table x) (λ s x lt. agree n x (omega arith) (omega arith)) (r .0) (part-lower p (r .0) (r .1)))
+        ∙ sym (needs-meet p (r .0) (r .1))
+
+  pub needs-settled : Settled table (needs-at table)
+  needs-settled = record { meets = needs-meet; only = λ f meets p. agree f meets (suc p) p (omega arith) }
+
+  pub well-formed : Well-formed table
+  well-formed =
+      let h = loaded no.Length tt in
+      record {
+        sized = (omega arith, omega arith);
+        there = row-there table loaded;
+        parts = parts-sound table loaded;
+        program = last-command table loaded;
+        settled = needs-settled;
+      }
