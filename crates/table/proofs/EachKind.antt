@@ -2,15 +2,12 @@
 use Prim.Native.Nat.{ℕ, _<_, _≤_}
 use native.Mathlib.Omega.{arith}
 use mathlib.Core.Path.{_≡_, refl, sym, ap, subst}
-use mathlib.Core.Bool.{true, false, cond}
+use mathlib.Core.Bool.{true, false}
 use mathlib.Core.Logic.{⊎-elim}
-use lib.Dec.{eqb, ltb}
 use mir.Syntax.{w32}
 use mir.Val.{toZ}
 use Rattle.std.proofs.shelf.Tests.{cases-order, lt-ltb}
-use Rattle.std.proofs.shelf.Ways.{tells}
-use Rattle.std.specs.declared.option.Option.{Option}
-use Rattle.std.specs.declared.option.Option.the-variants.{Some, None}
+use Rattle.std.specs.declared.option.Option.the-variants.{Some}
 use Rattle.std.specs.Options.{mapped}
 use Rattle.table.specs.declared.layout.Sort.{Sort}
 use Rattle.table.specs.declared.words.Words.{Words}
@@ -23,7 +20,7 @@ use Rattle.table.specs.declared.row.Relation.the-variants.{Greater, Less, Equa
 use Rattle.table.specs.Layouts.{layout-of}
 use Rattle.table.specs.Parts.{Each-part}
 use Rattle.table.specs.Questions.{On-part, Of-row, In-range}
-use Rattle.table.specs.Rows.{decoded, with-operator, with-relation, operator-of, relation-of, located, sort-of}
+use Rattle.table.specs.Rows.{decoded, with-operator, with-relation, operator-of, relation-of, sort-of}
 
 -- what holds of i and of every number past it holds of every number from i on
 from-here : (P : ℕ → Type 0) (i : ℕ) → P i → ((k : ℕ) → i < k → P k) → (k : ℕ) → i ≤ k → P k

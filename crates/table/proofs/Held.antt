@@ -1,7 +1,7 @@
 -- What a program place holds: the table of the one row skip is loaded, and so is every table in a place.
 use Prim.Native.Nat.{ℕ, _<_}
 use native.Mathlib.Omega.{arith}
-use mathlib.Core.Path.{_≡_, refl, sym, subst}
+use mathlib.Core.Path.{_≡_, refl, subst}
 use mathlib.Core.List.{List, [], _∷_}
 use mathlib.Core.Logic.{∥∥₁-elim}
 use std.HLevel.{Π-prop}

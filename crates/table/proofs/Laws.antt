@@ -1,29 +1,24 @@
 -- What the layers above may use of a loaded table, without opening what loading asks.
-use Prim.Native.Nat.{ℕ, zero, suc, _+_, _<_, _≤_, max}
+use Prim.Native.Nat.{ℕ, zero, suc, _+_, _<_}
 use native.Mathlib.Omega.{arith}
-use native.Mathlib.Numerals.{add-one}
-use mathlib.Core.Path.{_≡_, refl, sym, ap, subst, _∙_}
-use mathlib.Core.Bool.{true, false, cond}
+use mathlib.Core.Path.{_≡_, refl, sym, ap, _∙_}
 use mathlib.Core.List.{List}
 use mathlib.Core.Logic.{⊎-elim}
-use lib.Dec.{ltb, eqb}
-use Rattle.std.proofs.shelf.Tests.{cases-bool, cases-eq, cases-lt, lt-ltb, ltb-true, cond-true, cond-false, eq-eqb, ne-eqb}
-use Rattle.std.specs.declared.option.Option.{Option}
+use lib.Dec.{ltb}
+use Rattle.std.proofs.shelf.Tests.{cases-bool, ltb-true, cond-false}
 use Rattle.std.specs.declared.option.Option.the-variants.{Some, None}
-use Rattle.std.specs.Options.{Cases as BySome, mapped}
 use Rattle.table.specs.declared.layout.Sort.{Sort}
 use Rattle.table.specs.declared.layout.Sort.the-variants.{Command}
 use Rattle.table.specs.declared.needs.Needs.{Needs}
 use Rattle.table.specs.declared.refusal.Refusal.the-variants as no
 use Rattle.table.specs.declared.row.Row.{Row}
 use Rattle.table.specs.declared.row.Row.the-variants as row
-use Rattle.table.specs.Layouts.{layout-of}
 use Rattle.table.specs.Parts.{Each-part, Has-sort, Sound-parts}
-use Rattle.table.specs.Questions.{Yes, Loaded, Row-passes, sort-at}
+use Rattle.table.specs.Questions.{Loaded, Row-passes, sort-at}
 use Rattle.table.specs.Rows.{rows, last-row, row-at, words-at, decoded, sort-of}
 use Rattle.table.specs.Stacks.{needed, of-row, needs-below, needs-at, Meets-needs, Settled}
 use Rattle.table.specs.WellFormed.{Well-formed}
-use Rattle.table.proofs.EachKind.{Spelt}
+use Rattle.table.proofs.Spared.{needs-stay, needs-then}
 use Rattle.table.proofs.Passing.{each-part, each-both, parts-lower, parts-sorted, row-within, spelt-at}
 
 module _ (table : List ℕ) (loaded : Loaded table) where
@@ -80,14 +75,6 @@ needed-same f g (row.Sequence x y) q = cc
 needed-same f g (row.Choice b x y) q = cc
 needed-same f g (row.Loop b x) q = cc
 
--- the needs of a row are worked out once, when its turn comes
-needs-stay : (table : List ℕ) (n p : ℕ) → p < n → needs-below table n p ≡ needs-at table p
-needs-stay table zero p h = absurd (omega arith)
-needs-stay table (suc n) p h =
-    ⊎-elim (λ e. subst (λ i. needs-below table (suc i) p ≡ needs-at table p) e refl)
-    (λ ne. cond-false (eqb p n) (of-row (needs-below table n) (row-at table n)) (needs-below table n p) (ne-eqb p n ne) ∙ needs-stay table n p (omega arith))
-    (cases-eq p n)
-
 module _ (table : List ℕ) (loaded : Loaded table) where
   part-lower : (p : ℕ) (r : Row) → row-at table p ≡ Some r → Each-part (λ _ x. x < p) r
   part-lower p r e = each-part (λ s x. (x < p) × Has-sort table s x) (λ _ x. x < p) (λ s x q. q .0) r (parts-sound table loaded p r e)
@@ -95,7 +82,7 @@ module _ (table : List ℕ) (loaded : Loaded table) where
   -- the needs of a loaded table meet the equation of every row
   pub needs-meet : Meets-needs table (needs-at table)
   needs-meet p r e =
-      cond-true (eqb p p) (of-row (needs-below table p) (row-at table p)) (needs-below table p p) (eq-eqb p p refl)
+      needs-then table p
       ∙ ap (of-row (needs-below table p)) e
       ∙ needed-same (needs-below table p) (needs-at table) r
       (each-part (λ _ x. x < p) (λ _ x. needs-below table p x ≡ needs-at table x) (λ s x h. needs-stay table p x h) r (part-lower p r e))

@@ -1,13 +1,13 @@
 -- The order of the questions: what has been answered before the first no, and once all are answered.
-use Prim.Native.Nat.{ℕ, _+_, _*_, _-_, _<_, _≤_}
+use Prim.Native.Nat.{ℕ, _+_, _*_, _<_, _≤_}
 use native.Mathlib.Omega.{arith}
-use mathlib.Core.Path.{_≡_, refl, sym, subst}
+use mathlib.Core.Path.{sym, subst}
 use mathlib.Core.List.{List}
 use mathlib.Core.Logic.{⊎-elim}
 use Rattle.std.proofs.shelf.Tests.{cases-order}
 use Rattle.table.specs.declared.refusal.Refusal.{Refusal}
 use Rattle.table.specs.declared.refusal.Refusal.the-variants as no
-use Rattle.table.specs.Questions.{Yes, Asked, Loaded, First-no, Row-passes, Row-refused, turn, number-of, row-of}
+use Rattle.table.specs.Questions.{Yes, Asked, First-no, Row-passes, Row-refused, turn}
 use Rattle.table.specs.Rows.{rows}
 
 module _ (table : List ℕ) where
@@ -66,15 +66,3 @@ module _ (table : List ℕ) where
         subst (λ n. First-no table (no.Mismatch n)) (sym (h .0))
         (record { asked = within; answer = h .5; before = before p 6 (omega arith) long below here within })
     first-no (no.NotCommand q) h = absurd h
-
-  -- where all rows pass and the last is a command, the table is loaded
-  module _ (p : ℕ) (last : p + 1 ≡ rows table) (long : Yes table no.Length) (all : (k : ℕ) → k < p + 1 → Row-passes table k) where
-    pub all-yes : Yes table (no.NotCommand p) → Loaded table
-    all-yes h no.Length asked = long
-    all-yes h (no.Kind k) asked = all k (omega arith) .0
-    all-yes h (no.Unused k) asked = all k (omega arith) .1
-    all-yes h (no.Range k) asked = all k (omega arith) .2
-    all-yes h (no.Forward k) asked = all k (omega arith) .3
-    all-yes h (no.Mismatch k) asked = all k (omega arith) .4
-    all-yes h (no.NotCommand k) asked =
-        let same : p ≡ k = omega arith in subst (λ n. Yes table (no.NotCommand n)) same h

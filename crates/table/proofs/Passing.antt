@@ -1,17 +1,16 @@
 -- A row that passes: it is there, and its parts lie below it and are of the sorts that it asks.
 use Prim.Native.Nat.{ℕ, _<_}
-use mathlib.Core.Path.{_≡_, refl, sym, subst, _∙_}
+use mathlib.Core.Path.{_≡_, subst}
 use mathlib.Core.List.{List}
 use lib.Dec.{ltb}
 use Rattle.std.proofs.shelf.Tests.{lt-ltb, cond-true}
-use Rattle.std.specs.declared.option.Option.{Option}
-use Rattle.std.specs.declared.option.Option.the-variants.{Some, None}
+use Rattle.std.specs.declared.option.Option.the-variants.{Some}
 use Rattle.table.specs.declared.layout.Sort.{Sort}
 use Rattle.table.specs.declared.row.Row.{Row}
 use Rattle.table.specs.declared.row.Row.the-variants as row
 use Rattle.table.specs.Parts.{Each-part}
 use Rattle.table.specs.Questions.{Row-passes, On-part, Of-row, sort-at}
-use Rattle.table.specs.Rows.{rows, row-at, words-at, decoded, sort-of}
+use Rattle.table.specs.Rows.{rows, row-at, words-at, decoded}
 use Rattle.table.proofs.EachKind.{Spelt, passing-spells}
 
 -- what follows of each part from two facts

@@ -5,4 +5,5 @@ pub mod Places
 pub mod Questions
 pub mod Rows
 pub mod Stacks
+pub mod Surveys
 pub mod WellFormed

@@ -1,8 +1,8 @@
 -- The words of a table's rows, and the rows that they spell.
 use Prim.Native.Nat.{ℕ, _+_, _-_, _*_, _/_}
-use mathlib.Core.Bool.{cond, true, false}
+use mathlib.Core.Bool.{Bool, cond, true, false}
 use mathlib.Core.List.{List}
-use lib.Dec.{ltb, eqb}
+use lib.Dec.{ltb}
 use lib.ListN.{length, getD}
 use mir.Syntax.{w32}
 use mir.Val.{toZ}
@@ -50,6 +50,13 @@ abbrev pub with-relation : Option Relation → ℕ → ℕ → Option Row
 with-relation None x y = None
 with-relation (Some r) x y = Some (row.Comparison r x y)
 
+abbrev pub truth-of : ℕ → Option Bool
+truth-of a = case a 0 (Some false) (case a 1 (Some true) None)
+
+abbrev pub with-truth : Option Bool → Option Row
+with-truth None = None
+with-truth (Some t) = Some (row.Truth t)
+
 -- the row where the location is one of the 256
 abbrev pub located : ℕ → Row → Option Row
 located l r = cond (ltb l 256) (Some r) None
@@ -60,7 +67,7 @@ decoded w =
     case (w .kind) 0 (Some (row.Number (toZ w32 (w .a))))
     (case (w .kind) 1 (located (w .a) (row.Contents (w .a)))
     (case (w .kind) 2 (with-operator (operator-of (w .a)) (w .b) (w .c))
-    (case (w .kind) 3 (case (w .a) 0 (Some (row.Truth false)) (case (w .a) 1 (Some (row.Truth true)) None))
+    (case (w .kind) 3 (with-truth (truth-of (w .a)))
     (case (w .kind) 4 (with-relation (relation-of (w .a)) (w .b) (w .c))
     (case (w .kind) 5 (Some (row.Not (w .a)))
     (case (w .kind) 6 (Some (row.And (w .a) (w .b)))

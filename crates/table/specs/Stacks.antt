@@ -66,12 +66,12 @@ of-row n None = nothing
 of-row n (Some r) = needed n r
 
 -- the needs of the rows below n, a row after the other
-abbrev pub needs-below : List ℕ → ℕ → ℕ → Needs
+unfoldable pub needs-below : List ℕ → ℕ → ℕ → Needs
 needs-below table zero p = nothing
 needs-below table (suc n) p = cond (eqb p n) (of-row (needs-below table n) (row-at table n)) (needs-below table n p)
 
 -- the needs of the row p: the one way to meet the equations of a loaded table
-abbrev pub needs-at : List ℕ → ℕ → Needs
+unfoldable pub needs-at : List ℕ → ℕ → Needs
 needs-at table p = needs-below table (suc p) p
 
 -- n meets every row's equation, and nothing else does

@@ -8,12 +8,11 @@ use crate::refusal::Refusal;
 use crate::words::Words;
 use crate::words::words_at;
 ghost use mathlib.Core.Path.{_≡_};
-ghost use Prim.Native.Nat.{_<_, _≤_};
-ghost use lib.ListN.{length};
+ghost use Prim.Native.Nat.{_<_};
 ghost use Rattle.std.specs.Orderings.{Decides};
 ghost use Rattle.std.specs.Results.{Cases};
 ghost use Rattle.std.specs.declared.option.Option.the-variants.{Some};
-ghost use Rattle.table.specs.Rows.{rows, words-at};
+ghost use Rattle.table.specs.Rows.{rows};
 ghost use Rattle.table.specs.Questions.{Clear, In-range, Lower, Sorted, Each, sort-at, Row-passes, Row-refused};
 
 impl Field {

@@ -2,7 +2,7 @@
 use crate::row::Row;
 ghost use mathlib.Core.Path.{_≡_};
 ghost use Prim.Native.Nat.{ℕ, _+_, _<_, max};
-ghost use lib.ListN.{length, getD};
+ghost use lib.ListN.{length};
 ghost use Rattle.table.specs.Parts.{Each-part};
 ghost use Rattle.table.specs.Stacks.{needed, known-of, Small};
 
@@ -13,16 +13,49 @@ pub struct Needs {
     pub results: u16,
 }
 
-// Kinds 2, 4 and 6: the left operand is worked out above two items, the right one above one and beside a value.
+// An operator of two operands: the left one is worked out above the right one and the operator,
+// the right one above the operator and beside the left one's value.
 fn operation(left: Needs, right: Needs) -> Needs
     requires { ⌜ Small left ⌝ ∗ ⌜ Small right ⌝ }
     ensures control { λ r. ⌜ r .control ≡ max (left .control + 2) (right .control + 1) ⌝ }
     ensures results { λ r. ⌜ r .results ≡ max (left .results) (right .results + 1) ⌝ }
 {
-    Needs {
-        control: (left.control + 2).max(right.control + 1),
-        results: left.results.max(right.results + 1),
-    }
+    let control = (left.control + 2).max(right.control + 1);
+    let results = left.results.max(right.results + 1);
+    Needs { control, results }
+}
+
+// A sequence: the first is worked out above the second, which then takes its place.
+fn sequence(first: Needs, second: Needs) -> Needs
+    requires { ⌜ Small first ⌝ ∗ ⌜ Small second ⌝ }
+    ensures control { λ r. ⌜ r .control ≡ max (first .control + 1) (second .control) ⌝ }
+    ensures results { λ r. ⌜ r .results ≡ max (first .results) (second .results) ⌝ }
+{
+    let control = (first.control + 1).max(second.control);
+    let results = first.results.max(second.results);
+    Needs { control, results }
+}
+
+// A choice: the condition is worked out beside two rows, of which one then takes the choice's place.
+fn choice(condition: Needs, on_true: Needs, on_false: Needs) -> Needs
+    requires { ⌜ Small condition ⌝ ∗ ⌜ Small «on_true» ⌝ ∗ ⌜ Small «on_false» ⌝ }
+    ensures control { λ r. ⌜ r .control ≡ max (condition .control + 1) (max («on_true» .control) («on_false» .control)) ⌝ }
+    ensures results { λ r. ⌜ r .results ≡ max (condition .results + 2) (max («on_true» .results) («on_false» .results)) ⌝ }
+{
+    let control = (condition.control + 1).max(on_true.control.max(on_false.control));
+    let results = (condition.results + 2).max(on_true.results.max(on_false.results));
+    Needs { control, results }
+}
+
+// A loop: the condition is worked out beside two rows, the body above the loop itself.
+fn repetition(condition: Needs, body: Needs) -> Needs
+    requires { ⌜ Small condition ⌝ ∗ ⌜ Small body ⌝ }
+    ensures control { λ r. ⌜ r .control ≡ max (condition .control) (body .control) + 1 ⌝ }
+    ensures results { λ r. ⌜ r .results ≡ max (condition .results + 2) (body .results) ⌝ }
+{
+    let control = condition.control.max(body.control) + 1;
+    let results = (condition.results + 2).max(body.results);
+    Needs { control, results }
 }
 
 // What the row needs, where `known` has the needs of the rows that it names.
@@ -32,59 +65,33 @@ pub(crate) fn needs_of(row: Row, known: &[Needs]) -> Needs
     ensures { λ r. ⌜ r ≡ needed (known-of (now (known .entry))) row ⌝ }
 {
     match row {
-        Row::Number { .. } | Row::Contents { .. } | Row::Truth { .. } => Needs {
+        Row::Number(_) | Row::Contents(_) | Row::Truth(_) => Needs {
             control: 1,
             results: 1,
         },
-        Row::Arithmetic { left, right, .. }
-        | Row::Comparison { left, right, .. }
-        | Row::And { left, right } => { operation(known[left as usize], known[right as usize]) }
-        Row::Not { operand } => {
-            let x = known[operand as usize];
+        Row::Arithmetic(_, x, y) | Row::Comparison(_, x, y) | Row::And(x, y) => {
+            operation(known[x as usize], known[y as usize])
+        }
+        Row::Not(x) => {
+            let Needs { control, results } = known[x as usize];
             Needs {
-                control: x.control + 1,
-                results: x.results,
+                control: control + 1,
+                results,
             }
         }
         Row::Skip => Needs {
             control: 1,
             results: 0,
         },
-        Row::Assignment { operand, .. } => {
-            let x = known[operand as usize];
+        Row::Assignment(_, x) => {
+            let Needs { control, results } = known[x as usize];
             Needs {
-                control: x.control + 1,
-                results: x.results + 1,
+                control: control + 1,
+                results: results + 1,
             }
         }
-        Row::Sequence { first, second } => {
-            let x = known[first as usize];
-            let y = known[second as usize];
-            Needs {
-                control: (x.control + 1).max(y.control),
-                results: x.results.max(y.results),
-            }
-        }
-        Row::Choice {
-            condition,
-            on_true,
-            on_false,
-        } => {
-            let b = known[condition as usize];
-            let x = known[on_true as usize];
-            let y = known[on_false as usize];
-            Needs {
-                control: (b.control + 1).max(x.control.max(y.control)),
-                results: (b.results + 2).max(x.results.max(y.results)),
-            }
-        }
-        Row::Loop { condition, body } => {
-            let b = known[condition as usize];
-            let x = known[body as usize];
-            Needs {
-                control: b.control.max(x.control) + 1,
-                results: (b.results + 2).max(x.results),
-            }
-        }
+        Row::Sequence(x, y) => sequence(known[x as usize], known[y as usize]),
+        Row::Choice(b, x, y) => choice(known[b as usize], known[x as usize], known[y as usize]),
+        Row::Loop(b, x) => repetition(known[b as usize], known[x as usize]),
     }
 }

@@ -3,7 +3,7 @@ use crate::layout::Sort;
 use crate::words::Words;
 use crate::words::words_at;
 ghost use mathlib.Core.Path.{_≡_};
-ghost use Rattle.table.specs.Rows.{sort-of, operator-of, relation-of, decoded, row-at};
+ghost use Rattle.table.specs.Rows.{sort-of, operator-of, relation-of, truth-of, decoded, row-at};
 
 /// The operators of an arithmetic row.
 #[derive(Clone, Copy, PartialEq, Eq, Debug)]
@@ -22,53 +22,33 @@ pub enum Relation {
     Equal,
 }
 
-/// A decoded row, a case for each kind. A part is named by the number of its row.
+/// A decoded row, a case for each kind. A part is given by the number of its row.
 #[derive(Clone, Copy, PartialEq, Eq, Debug)]
 pub enum Row {
-    Number {
-        value: i32,
-    },
-    Contents {
-        location: u8,
-    },
-    Arithmetic {
-        operator: Operator,
-        left: u32,
-        right: u32,
-    },
-    Truth {
-        value: bool,
-    },
-    Comparison {
-        relation: Relation,
-        left: u32,
-        right: u32,
-    },
-    Not {
-        operand: u32,
-    },
-    And {
-        left: u32,
-        right: u32,
-    },
+    /// A number.
+    Number(i32),
+    /// What the cell at that location holds.
+    Contents(u8),
+    /// The operator with its left and its right operand.
+    Arithmetic(Operator, u32, u32),
+    /// A truth value.
+    Truth(bool),
+    /// The relation with its left and its right operand.
+    Comparison(Relation, u32, u32),
+    /// The operand turned round.
+    Not(u32),
+    /// Both operands.
+    And(u32, u32),
+    /// The command that does nothing.
     Skip,
-    Assignment {
-        location: u8,
-        operand: u32,
-    },
-    Sequence {
-        first: u32,
-        second: u32,
-    },
-    Choice {
-        condition: u32,
-        on_true: u32,
-        on_false: u32,
-    },
-    Loop {
-        condition: u32,
-        body: u32,
-    },
+    /// The operand's number put at that location.
+    Assignment(u8, u32),
+    /// The first command, then the second.
+    Sequence(u32, u32),
+    /// The condition, the command for true and the command for false.
+    Choice(u32, u32, u32),
+    /// The condition and the body.
+    Loop(u32, u32),
 }
 
 impl Row {
@@ -77,14 +57,10 @@ impl Row {
         ensures { λ r. ⌜ r ≡ sort-of self ⌝ }
     {
         match self {
-            Row::Number { .. } | Row::Contents { .. } | Row::Arithmetic { .. } => Sort::Integer,
-            Row::Truth { .. } | Row::Comparison { .. } | Row::Not { .. } | Row::And { .. } =>
-                Sort::Boolean,
-            Row::Skip
-            | Row::Assignment { .. }
-            | Row::Sequence { .. }
-            | Row::Choice { .. }
-            | Row::Loop { .. } => Sort::Command,
+            Row::Number(_) | Row::Contents(_) | Row::Arithmetic(..) => Sort::Integer,
+            Row::Truth(_) | Row::Comparison(..) | Row::Not(_) | Row::And(..) => Sort::Boolean,
+            Row::Skip | Row::Assignment(..) | Row::Sequence(..) | Row::Choice(..) | Row::Loop(..) =>
+                Sort::Command,
         }
     }
 }
@@ -114,53 +90,35 @@ fn relation_of(a: u32) -> Option<Relation>
     }
 }
 
+// The truth value of that number.
+fn truth_of(a: u32) -> Option<bool>
+    ensures { λ r. ⌜ r ≡ truth-of a ⌝ }
+{
+    match a {
+        0 => Some(false),
+        1 => Some(true),
+        _ => None,
+    }
+}
+
 /// The row that the words spell, where they spell one.
 pub fn decode(words: Words) -> Option<Row>
     ensures { λ r. ⌜ r ≡ decoded words ⌝ }
 {
     let Words { kind, a, b, c } = words;
     match kind {
-        0 => Some(Row::Number {
-            value: a.cast_signed(),
-        }),
-        1 => Some(Row::Contents {
-            location: u8::try_from(a).ok()?,
-        }),
-        2 => Some(Row::Arithmetic {
-            operator: operator_of(a)?,
-            left: b,
-            right: c,
-        }),
-        3 => match a {
-            0 => Some(Row::Truth { value: false }),
-            1 => Some(Row::Truth { value: true }),
-            _ => None,
-        },
-        4 => Some(Row::Comparison {
-            relation: relation_of(a)?,
-            left: b,
-            right: c,
-        }),
-        5 => Some(Row::Not { operand: a }),
-        6 => Some(Row::And { left: a, right: b }),
+        0 => Some(Row::Number(a.cast_signed())),
+        1 => Some(Row::Contents(u8::try_from(a).ok()?)),
+        2 => Some(Row::Arithmetic(operator_of(a)?, b, c)),
+        3 => Some(Row::Truth(truth_of(a)?)),
+        4 => Some(Row::Comparison(relation_of(a)?, b, c)),
+        5 => Some(Row::Not(a)),
+        6 => Some(Row::And(a, b)),
         7 => Some(Row::Skip),
-        8 => Some(Row::Assignment {
-            location: u8::try_from(a).ok()?,
-            operand: b,
-        }),
-        9 => Some(Row::Sequence {
-            first: a,
-            second: b,
-        }),
-        10 => Some(Row::Choice {
-            condition: a,
-            on_true: b,
-            on_false: c,
-        }),
-        11 => Some(Row::Loop {
-            condition: a,
-            body: b,
-        }),
+        8 => Some(Row::Assignment(u8::try_from(a).ok()?, b)),
+        9 => Some(Row::Sequence(a, b)),
+        10 => Some(Row::Choice(a, b, c)),
+        11 => Some(Row::Loop(a, b)),
         _ => None,
     }
 }

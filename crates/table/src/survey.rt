@@ -11,11 +11,13 @@ ghost use Prim.Native.Nat.{ℕ, _<_};
 ghost use mathlib.Core.Path.{_≡_};
 ghost use lib.ListN.{length};
 ghost use Rattle.std.specs.Orderings.{Decides};
+ghost use Rattle.std.specs.Results.{Cases};
 ghost use Rattle.table.specs.declared.refusal.Refusal.the-variants.{Length};
 ghost use Rattle.table.specs.Loading.{Answers};
-ghost use Rattle.table.specs.Questions.{Yes, Row-passes};
+ghost use Rattle.table.specs.Questions.{Yes, First-no, Row-passes};
 ghost use Rattle.table.specs.Rows.{rows, row-at};
-ghost use Rattle.table.specs.Stacks.{Small, known-of, of-row};
+ghost use Rattle.table.specs.Stacks.{Small, nothing, known-of, of-row};
+ghost use Rattle.table.specs.Surveys.{Surveyed};
 
 // The rows that a table has at most.
 const MAX_ROWS: usize = 4096;
@@ -44,24 +46,35 @@ fn row_needs(table: &[u32], p: u32, known: &[Needs]) -> Needs
     }
 }
 
-// Puts the questions in their order. The needs of the rows stand in a list, since many rows may
-// share one: a recursion over the rows would work them out anew for each that names them.
+// Asks questions 2 to 6 of every row, from row 0 upward, and lays down the needs of each. They stand
+// in a list since many rows may share one: a recursion would work them out anew for each that names it.
+fn survey_rows(table: &[u32], known: &mut [Needs]) -> Result<(), Refusal>
+    requires long { ⌜ Yes (now table) Length ⌝ }
+    requires room { ⌜ length (now known) ≡ 4096 ⌝ }
+    requires blank { ⌜ ((k : ℕ) → known-of (now known) k ≡ nothing) ⌝ }
+    ensures { λ r. ⌜ Cases r (λ _. Surveyed (now (table .entry)) (now (known .exit))) (First-no (now (table .entry))) ⌝ }
+{
+    let count = (table.len() / 4) as u32;
+    for p in 0..count {
+        check_row(table, p)?;
+        known[p as usize] = row_needs(table, p, known);
+    }
+    Ok(())
+}
+
+// Puts the questions in their order.
 pub(crate) fn survey(table: &[u32]) -> Result<Needs, Refusal>
     ensures { λ r. ⌜ Answers (now (table .entry)) r ⌝ }
 {
     if !length_passes(table) {
         return Err(Refusal::Length);
     }
-    let count = (table.len() / 4) as u32;
     let mut known = [Needs {
         control: 0,
         results: 0,
     }; MAX_ROWS];
-    for p in 0..count {
-        check_row(table, p)?;
-        known[p as usize] = row_needs(table, p, &known);
-    }
-    let last = count - 1;
+    survey_rows(table, &mut known)?;
+    let last = (table.len() / 4 - 1) as u32;
     if !has_sort(table, last, Sort::Command) {
         return Err(Refusal::NotCommand(last));
     }

@@ -3,7 +3,6 @@ use native.Mathlib.Omega.{arith}
 use mathlib.Core.Path.{_≡_, sym, ap, _∙_}
 use Rattle.std.specs.declared.option.Option.the-variants.{Some}
 use lib.ListN.{length}
-use Rattle.table.specs.Parts.{Each-part}
 use Rattle.table.specs.Rows.{words-at, decoded, row-at}
 use Rattle.table.specs.Stacks.{of-row, known-of}
 use Rattle.table.proofs.Passing.{each-part, parts-lower, row-within}

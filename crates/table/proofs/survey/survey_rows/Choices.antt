@@ -4,7 +4,7 @@ use mathlib.Core.Path.{_≡_}
 use lib.ListN.{length}
 use Rattle.table.specs.Questions.{Row-passes}
 use Rattle.table.specs.Stacks.{known-of, needs-below}
-use Rattle.table.proofs.survey.survey.Given as given
+use Rattle.table.proofs.survey.survey_rows.Given as given
 
 abbrev pub Inv-loop-p : given.InvT-loop-p
 Inv-loop-p l =
