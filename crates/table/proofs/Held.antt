@@ -10,26 +10,27 @@ use denote.Struct.Props.{props, three-prop}
 use Rattle.std.specs.declared.option.Option.{Option}
 use Rattle.std.specs.declared.option.Option.the-variants.{Some, None}
 use Rattle.std.specs.Options.{Cases as BySome}
-use Rattle.table.specs.declared.layout.Field.{Field}
-use Rattle.table.specs.declared.layout.Field.the-variants as field
-use Rattle.table.specs.declared.layout.Layout.{Layout}
+use Rattle.loading.specs.declared.layout.Field.{Field}
+use Rattle.loading.specs.declared.layout.Field.the-variants as field
+use Rattle.loading.specs.declared.layout.Layout.{Layout}
 use Rattle.std.specs.contracts.option.Option as option
-use Rattle.table.specs.contracts.layout.Sort as sort
-use Rattle.table.specs.declared.layout.Sort.{Sort}
-use Rattle.table.specs.declared.layout.Sort.the-variants.{Command}
+use Rattle.rows.specs.contracts.row.Sort as sort
+use Rattle.rows.specs.declared.row.Sort.{Sort}
+use Rattle.rows.specs.declared.row.Sort.the-variants.{Command}
 use Rattle.table.specs.declared.program.Program.{Program}
-use Rattle.table.specs.declared.refusal.Refusal.{Refusal}
-use Rattle.table.specs.declared.refusal.Refusal.the-variants as no
-use Rattle.table.specs.declared.words.Words.{Words}
-use Rattle.table.specs.Layouts.{layout-of}
+use Rattle.loading.specs.declared.refusal.Refusal.{Refusal}
+use Rattle.loading.specs.declared.refusal.Refusal.the-variants as no
+use Rattle.rows.specs.declared.words.Words.{Words}
+use Rattle.loading.specs.Layouts.{layout-of}
 use Rattle.table.specs.Places.{table-of}
-use Rattle.table.specs.Questions.{Yes, Loaded, Of-row, Each, Clear, In-range, On-part, Lower, Sorted, sort-at}
-use Rattle.table.specs.Rows.{words-at}
+use Rattle.loading.specs.Questions.{Yes, Loaded, Of-row, Each, Clear, In-range, On-part, Lower, Sorted}
+use Rattle.rows.specs.Rows.{words-at, sort-at}
 
 abbrev pub skip-table : List ℕ
 skip-table = 7 ∷ 0 ∷ 0 ∷ 0 ∷ []
 
 pub skip-loaded : Loaded skip-table
+unfolding sort-at
 skip-loaded no.Length h = (refl, omega arith, omega arith)
 skip-loaded (no.Kind p) h = let e : 0 ≡ p = omega arith in subst (λ n. Yes skip-table (no.Kind n)) e (omega arith)
 skip-loaded (no.Unused p) h = let e : 0 ≡ p = omega arith in subst (λ n. Yes skip-table (no.Unused n)) e (refl, refl, refl)

@@ -1,6 +1,1 @@
-pub mod EachKind
 pub mod Held
-pub mod Laws
-pub mod Order
-pub mod Passing
-pub mod Spared

@@ -5,13 +5,13 @@ use mathlib.Core.List.{List}
 use denote.Ref.{now}
 use Rattle.std.specs.declared.result.Result.{Result}
 use Rattle.std.specs.declared.result.Result.the-variants.{Ok, Err}
-use Rattle.table.specs.declared.needs.Needs.{Needs}
+use Rattle.loading.specs.declared.needs.Needs.{Needs}
 use Rattle.table.specs.declared.program.Program.{Program}
-use Rattle.table.specs.declared.refusal.Refusal.{Refusal}
-use Rattle.table.specs.Questions.{Loaded, First-no}
-use Rattle.table.specs.Rows.{last-row}
-use Rattle.table.specs.Stacks.{needs-at}
-use Rattle.table.specs.WellFormed.{Well-formed}
+use Rattle.loading.specs.declared.refusal.Refusal.{Refusal}
+use Rattle.loading.specs.Questions.{Loaded, First-no}
+use Rattle.rows.specs.Rows.{last-row}
+use Rattle.loading.specs.Stacks.{needs-at}
+use Rattle.loading.specs.WellFormed.{Well-formed}
 
 abbrev pub table-of : Program → List ℕ
 table-of place = now (place .words)

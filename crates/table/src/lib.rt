@@ -1,9 +1,9 @@
-// Rule tables: rows of words, what loading asks of them, and what a run of them needs.
-mod check;
-pub mod layout;
-pub mod needs;
+// The program place: it takes rule tables in, and holds one that is loaded at all times.
 pub mod program;
-pub mod refusal;
-pub mod row;
-mod survey;
-pub mod words;
+
+pub use loading::needs::Needs;
+pub use loading::refusal::Refusal;
+pub use rows::row::Operator;
+pub use rows::row::Relation;
+pub use rows::row::Row;
+pub use rows::row::Sort;

@@ -1,11 +1,11 @@
 // The program place.
-use crate::needs::Needs;
+use loading::needs::Needs;
 ghost use Prim.Native.Nat.{_≤_};
 ghost use mathlib.Core.Path.{_≡_};
 ghost use denote.Ref.{now};
-ghost use Rattle.table.specs.Questions.{Loaded};
-ghost use Rattle.table.specs.Rows.{rows, last-row};
-ghost use Rattle.table.specs.Stacks.{needs-at};
+ghost use Rattle.loading.specs.Questions.{Loaded};
+ghost use Rattle.rows.specs.Rows.{rows, last-row};
+ghost use Rattle.loading.specs.Stacks.{needs-at};
 
 mod place;
 

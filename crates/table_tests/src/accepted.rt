@@ -1,15 +1,15 @@
 // Tables that load.
 use crate::helpers::FACTORIAL;
 use crate::helpers::loads;
+use loading::needs::NeedsDebug as _;
+use loading::needs::NeedsPartialEq as _;
+use rows::row::RowDebug as _;
+use rows::row::RowPartialEq as _;
 use std::test::*;
-use table::needs::Needs;
-use table::needs::NeedsDebug as _;
-use table::needs::NeedsPartialEq as _;
+use table::Needs;
+use table::Operator;
+use table::Row;
 use table::program::Program;
-use table::row::Operator;
-use table::row::Row;
-use table::row::RowDebug as _;
-use table::row::RowPartialEq as _;
 
 #[test]
 fn new_place_holds_skip() -> Result<(), Fail> {

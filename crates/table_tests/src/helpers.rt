@@ -1,8 +1,8 @@
 // What the examples have in common.
+use loading::needs::NeedsDebug as _;
+use loading::needs::NeedsPartialEq as _;
 use std::test::*;
-use table::needs::Needs;
-use table::needs::NeedsDebug as _;
-use table::needs::NeedsPartialEq as _;
+use table::Needs;
 use table::program::Program;
 
 /// Four to the factorial: cell 2 becomes 1, then cell 1 counts down while cell 2 is multiplied.

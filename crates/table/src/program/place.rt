@@ -1,37 +1,41 @@
 // Loading a table into the program place, and what the place tells of the table that it holds.
 use super::Program;
-use crate::needs::Needs;
-use crate::refusal::Refusal;
-use crate::row::Row;
-use crate::row::row_at;
-use crate::survey::survey;
+use loading::needs::Needs;
+use loading::refusal::Refusal;
+use loading::survey::survey;
+use rows::row::Row;
+use rows::row::row_at;
 ghost use Prim.Native.Nat.{_+_};
 ghost use mathlib.Core.Path.{_≡_};
 ghost use mathlib.Core.List.{[], _∷_};
 ghost use Rattle.std.specs.declared.result.Result.{Result as Answer};
 ghost use Rattle.std.specs.declared.result.Result.the-variants.{Ok};
-ghost use Rattle.table.specs.declared.needs.Needs.{Needs};
-ghost use Rattle.table.specs.declared.refusal.Refusal.{Refusal};
-ghost use Rattle.table.specs.Loading.{Answers};
+ghost use Rattle.loading.specs.declared.needs.Needs.{Needs};
+ghost use Rattle.loading.specs.declared.refusal.Refusal.{Refusal};
+ghost use Rattle.loading.specs.Loading.{Answers};
 ghost use Rattle.table.specs.Places.{Accepted, Loads, table-of};
-ghost use Rattle.table.specs.Rows.{rows, row-at, last-row};
-ghost use Rattle.table.specs.Stacks.{needs-at};
+ghost use Rattle.rows.specs.Rows.{rows, row-at, last-row};
+ghost use Rattle.loading.specs.Stacks.{needs-at};
 
 // What a place holds before anything is loaded: one row, skip.
 const SKIP: [u32; 4] = [7, 0, 0, 0];
+
+fn skip<'a>() -> &'a [u32]
+    ensures { λ r. ⌜ now r ≡ 7 ∷ 0 ∷ 0 ∷ 0 ∷ [] ⌝ }
+{
+    &SKIP
+}
 
 impl<'a> Program<'a> {
     /// A place that holds the table of the one row skip.
     pub fn new() -> Program<'a>
         ensures { λ r. ⌜ Accepted (7 ∷ 0 ∷ 0 ∷ 0 ∷ []) r ⌝ }
     {
-        Program {
-            words: &SKIP,
-            needs: Needs {
-                control: 1,
-                results: 0,
-            },
-        }
+        let needs = Needs {
+            control: 1,
+            results: 0,
+        };
+        Program::holding(skip(), needs)
     }
 
     // A place that holds the words, which have got a yes to every question.

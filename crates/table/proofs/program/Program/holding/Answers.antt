@@ -1,5 +1,5 @@
 use mathlib.Core.Path.{refl}
-use Rattle.table.proofs.Laws.{well-formed}
+use Rattle.loading.proofs.Laws.{well-formed}
 use Rattle.table.proofs.program.Program.holding.Needs as need
 
 pub ghost-result : need.ghost-result

@@ -1,0 +1,3 @@
+// The rows of a rule table: their words, the rows that these spell, and the sorts of rows.
+pub mod row;
+pub mod words;

@@ -1,7 +1,0 @@
-use mathlib.Core.Path.{refl}
-use borrow.Author.Needs.{needs}
-use Rattle.table.proofs.Spared.{known-none}
-use Rattle.table.proofs.survey.survey.Needs as need
-
-pub survey-rows-requires : need.survey-rows-requires
-survey-rows-requires c κs = record { long = c .length-passes .ensures .0 (search needs); room = refl; blank = known-none 4096 }
