@@ -8,9 +8,8 @@ use rows::row::Sort;
 use rows::row::decode;
 use rows::words::Words;
 use rows::words::words_at;
-ghost use Prim.Native.Nat.{ℕ, _<_};
-ghost use mathlib.Core.Path.{_≡_};
 ghost use lib.ListN.{length};
+ghost use mathlib.Core.Path.{_≡_};
 ghost use Rattle.std.specs.Orderings.{Decides};
 ghost use Rattle.std.specs.Results.{Cases};
 ghost use Rattle.rows.specs.Rows.{rows, words-at, row-at};
@@ -19,6 +18,7 @@ ghost use Rattle.loading.specs.Loading.{Answers};
 ghost use Rattle.loading.specs.Questions.{Yes, First-no, Row-passes};
 ghost use Rattle.loading.specs.Stacks.{Small, nothing, known-of, of-row};
 ghost use Rattle.loading.specs.Surveys.{Surveyed};
+ghost use Prim.Native.Nat.{ℕ, _<_};
 
 // The rows that a table has at most.
 const MAX_ROWS: usize = 4096;
