@@ -8,7 +8,6 @@ use mir.Syntax.{w32}
 use mir.Val.{toZ}
 use Rattle.std.proofs.shelf.Tests.{cases-order, lt-ltb}
 use Rattle.std.specs.declared.option.Option.the-variants.{Some}
-use Rattle.std.specs.Options.{mapped}
 use Rattle.rows.specs.declared.row.Sort.{Sort}
 use Rattle.rows.specs.declared.words.Words.{Words}
 use Rattle.rows.specs.declared.row.Row.{Row}
@@ -17,10 +16,9 @@ use Rattle.rows.specs.declared.row.Operator.{Operator}
 use Rattle.rows.specs.declared.row.Operator.the-variants.{Plus, Minus, Times, Over}
 use Rattle.rows.specs.declared.row.Relation.{Relation}
 use Rattle.rows.specs.declared.row.Relation.the-variants.{Greater, Less, Equal}
-use Rattle.loading.specs.Layouts.{layout-of}
 use Rattle.rows.specs.Parts.{Each-part}
 use Rattle.loading.specs.Questions.{On-part, Of-row, In-range}
-use Rattle.rows.specs.Rows.{decoded, with-operator, with-relation, operator-of, relation-of, sort-of}
+use Rattle.rows.specs.Rows.{decoded, with-operator, with-relation, operator-of, relation-of}
 
 -- what holds of i and of every number past it holds of every number from i on
 from-here : (P : ℕ → Type 0) (i : ℕ) → P i → ((k : ℕ) → i < k → P k) → (k : ℕ) → i ≤ k → P k

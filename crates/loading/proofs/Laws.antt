@@ -15,10 +15,11 @@ use Rattle.loading.specs.declared.refusal.Refusal.the-variants as no
 use Rattle.rows.specs.declared.row.Row.{Row}
 use Rattle.rows.specs.declared.row.Row.the-variants as row
 use Rattle.rows.specs.Parts.{Each-part, Has-sort, Sound-parts}
-use Rattle.loading.specs.Questions.{Loaded, Row-passes}
-use Rattle.rows.specs.Rows.{rows, last-row, row-at, words-of, words-at, decoded, sort-of, sort-at, then}
+use Rattle.loading.specs.Questions.{Loaded}
+use Rattle.rows.specs.Rows.{rows, last-row, row-at, words-at, decoded, sort-of, sort-at, then}
 use Rattle.loading.specs.Stacks.{needed, of-row, needs-below, needs-at, Meets-needs, Settled}
 use Rattle.loading.specs.WellFormed.{Well-formed}
+use Rattle.loading.specs.Surveys.{Row-passes}
 use Rattle.loading.proofs.Spared.{needs-stay, needs-then}
 use Rattle.loading.proofs.Passing.{each-part, each-both, parts-lower, parts-sorted, row-within, spelt-at}
 

@@ -7,7 +7,8 @@ use mathlib.Core.Logic.{⊎-elim}
 use Rattle.std.proofs.shelf.Tests.{cases-order}
 use Rattle.loading.specs.declared.refusal.Refusal.{Refusal}
 use Rattle.loading.specs.declared.refusal.Refusal.the-variants as no
-use Rattle.loading.specs.Questions.{Yes, Asked, First-no, Row-passes, Row-refused, turn}
+use Rattle.loading.specs.Questions.{Yes, Asked, First-no, turn}
+use Rattle.loading.specs.Surveys.{Row-passes, Row-refused}
 use Rattle.rows.specs.Rows.{rows}
 
 module _ (table : List ℕ) where

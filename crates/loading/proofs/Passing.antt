@@ -12,7 +12,8 @@ use Rattle.rows.specs.declared.row.Sort.{Sort}
 use Rattle.rows.specs.declared.row.Row.{Row}
 use Rattle.rows.specs.declared.row.Row.the-variants as row
 use Rattle.rows.specs.Parts.{Each-part}
-use Rattle.loading.specs.Questions.{Row-passes, On-part, Of-row}
+use Rattle.loading.specs.Questions.{On-part, Of-row}
+use Rattle.loading.specs.Surveys.{Row-passes}
 use Rattle.rows.specs.Rows.{rows, row-at, words-of, words-at, decoded, sort-at, then}
 use Rattle.loading.proofs.EachKind.{Spelt, passing-spells}
 

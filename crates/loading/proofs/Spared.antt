@@ -15,7 +15,8 @@ use Rattle.loading.specs.declared.needs.Needs.{Needs}
 use Rattle.rows.specs.declared.row.Row.{Row}
 use Rattle.rows.specs.declared.row.Row.the-variants as row
 use Rattle.rows.specs.Rows.{row-at}
-use Rattle.loading.specs.Stacks.{needed, nothing, of-row, needs-below, needs-at, known-of}
+use Rattle.loading.specs.Stacks.{needed, nothing, of-row, needs-below, needs-at}
+use Rattle.loading.specs.Surveys.{known-of}
 
 -- what n rows can need: two places for each, and one
 abbrev pub Within : ℕ → Needs → Type 0

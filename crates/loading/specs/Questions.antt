@@ -4,9 +4,8 @@ use Prim.Native.Nat.{ℕ, _+_, _*_, _%_, _<_, _≤_}
 use mathlib.Core.Path.{_≡_}
 use mathlib.Core.List.{List}
 use lib.ListN.{length}
-use Rattle.std.specs.declared.option.Option.{Option}
 use Rattle.std.specs.declared.option.Option.the-variants.{Some}
-use Rattle.std.specs.Options.{mapped, Cases as BySome}
+use Rattle.std.specs.Options.{Cases as BySome}
 use Rattle.rows.specs.declared.row.Sort.{Sort}
 use Rattle.rows.specs.declared.row.Sort.the-variants.{Command}
 use Rattle.loading.specs.declared.layout.Field.{Field}
@@ -116,21 +115,3 @@ pub record First-no (table : List ℕ) (e : Refusal) : Type 0 where
   pub asked : Asked table e
   pub answer : Yes table e → ⊥
   pub before : (d : Refusal) → Asked table d → turn d < turn e → Yes table d
-
--- The questions of one row, in a row's own words.
-
--- the row p gets a yes to 2, 3, 4, 5 and 6
-abbrev pub Row-passes : List ℕ → ℕ → Type 0
-Row-passes table p = Yes table (no.Kind p) × Yes table (no.Unused p) × Yes table (no.Range p) × Yes table (no.Forward p) × Yes table (no.Mismatch p)
-
--- the row p gets its first no as the refusal says
-abbrev pub Row-refused : List ℕ → ℕ → Refusal → Type 0
-Row-refused table p no.Length = ⊥
-Row-refused table p (no.Kind q) = (q ≡ p) × (Yes table (no.Kind p) → ⊥)
-Row-refused table p (no.Unused q) = (q ≡ p) × Yes table (no.Kind p) × (Yes table (no.Unused p) → ⊥)
-Row-refused table p (no.Range q) = (q ≡ p) × Yes table (no.Kind p) × Yes table (no.Unused p) × (Yes table (no.Range p) → ⊥)
-Row-refused table p (no.Forward q) =
-    (q ≡ p) × Yes table (no.Kind p) × Yes table (no.Unused p) × Yes table (no.Range p) × (Yes table (no.Forward p) → ⊥)
-Row-refused table p (no.Mismatch q) =
-    (q ≡ p) × Yes table (no.Kind p) × Yes table (no.Unused p) × Yes table (no.Range p) × Yes table (no.Forward p) × (Yes table (no.Mismatch p) → ⊥)
-Row-refused table p (no.NotCommand q) = ⊥

@@ -1,10 +1,9 @@
 -- How many places a row's run needs on the control stack and on the results stack.
-use Prim.Native.Nat.{ℕ, zero, suc, _+_, _<_, _≤_, max}
+use Prim.Native.Nat.{ℕ, zero, suc, _+_, _<_, max}
 use mathlib.Core.Path.{_≡_}
 use mathlib.Core.Bool.{cond}
 use mathlib.Core.List.{List}
 use lib.Dec.{eqb}
-use lib.ListN.{getD}
 use Rattle.std.specs.declared.option.Option.{Option}
 use Rattle.std.specs.declared.option.Option.the-variants.{Some, None}
 use Rattle.loading.specs.declared.needs.Needs.{Needs}
@@ -53,14 +52,7 @@ Meets-needs table n = (p : ℕ) (r : Row) → row-at table p ≡ Some r → n p 
 abbrev pub nothing : Needs
 nothing = record { control = 0; results = 0 }
 
--- the needs that a list has at x
-abbrev pub known-of : List Needs → ℕ → Needs
-known-of known x = getD known x nothing
-
--- needs from which those of one more row fit 16 bits
-abbrev pub Small : Needs → Type 0
-Small n = (n .control ≤ 8192) × (n .results ≤ 8192)
-
+-- a row that is not there needs nothing
 abbrev pub of-row : (ℕ → Needs) → Option Row → Needs
 of-row n None = nothing
 of-row n (Some r) = needed n r

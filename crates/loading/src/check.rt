@@ -12,7 +12,8 @@ ghost use Rattle.std.specs.Orderings.{Decides};
 ghost use Rattle.std.specs.Results.{Cases};
 ghost use Rattle.std.specs.declared.option.Option.the-variants.{Some};
 ghost use Rattle.rows.specs.Rows.{words-at, sort-at};
-ghost use Rattle.loading.specs.Questions.{Clear, In-range, Lower, Sorted, Each, Row-passes, Row-refused};
+ghost use Rattle.loading.specs.Questions.{Clear, In-range, Lower, Sorted, Each};
+ghost use Rattle.loading.specs.Surveys.{Row-passes, Row-refused};
 
 impl Field {
     // Question 3 of one word.

@@ -4,7 +4,8 @@ ghost use mathlib.Core.Path.{_≡_};
 ghost use Prim.Native.Nat.{ℕ, _+_, _<_, max};
 ghost use lib.ListN.{length};
 ghost use Rattle.rows.specs.Parts.{Each-part};
-ghost use Rattle.loading.specs.Stacks.{needed, known-of, Small};
+ghost use Rattle.loading.specs.Stacks.{needed};
+ghost use Rattle.loading.specs.Surveys.{Small, known-of};
 
 /// The places that a row's run needs at most: on the control stack and on the results stack.
 #[derive(Clone, Copy, PartialEq, Eq, Debug)]

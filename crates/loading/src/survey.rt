@@ -15,9 +15,9 @@ ghost use Rattle.std.specs.Results.{Cases};
 ghost use Rattle.rows.specs.Rows.{rows, words-at, row-at};
 ghost use Rattle.loading.specs.declared.refusal.Refusal.the-variants.{Length};
 ghost use Rattle.loading.specs.Loading.{Answers};
-ghost use Rattle.loading.specs.Questions.{Yes, First-no, Row-passes};
-ghost use Rattle.loading.specs.Stacks.{Small, nothing, known-of, of-row};
-ghost use Rattle.loading.specs.Surveys.{Surveyed};
+ghost use Rattle.loading.specs.Questions.{Yes, First-no};
+ghost use Rattle.loading.specs.Stacks.{nothing, of-row};
+ghost use Rattle.loading.specs.Surveys.{Row-passes, Small, Surveyed, known-of};
 ghost use Prim.Native.Nat.{ℕ, _<_};
 
 // The rows that a table has at most.

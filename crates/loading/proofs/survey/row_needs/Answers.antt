@@ -4,7 +4,8 @@ use mathlib.Core.Path.{_≡_, sym, ap, _∙_}
 use Rattle.std.specs.declared.option.Option.the-variants.{Some}
 use lib.ListN.{length}
 use Rattle.rows.specs.Rows.{words-at, decoded, row-at}
-use Rattle.loading.specs.Stacks.{of-row, known-of}
+use Rattle.loading.specs.Stacks.{of-row}
+use Rattle.loading.specs.Surveys.{known-of}
 use Rattle.loading.proofs.Passing.{each-part, parts-lower, row-within}
 use Rattle.loading.proofs.survey.row_needs.Needs as need
 

@@ -3,11 +3,11 @@ use borrow.Author.Count.{below-more}
 use mathlib.Core.Path.{sym, _∙_}
 use lib.ListN.{length-set}
 use Rattle.std.proofs.shelf.Results.{err-from-errBy}
-use Rattle.loading.specs.Questions.{Row-passes}
 use Rattle.loading.proofs.Order.{first-no}
 use Rattle.loading.proofs.Passing.{words-there, words-gone}
 use Rattle.loading.proofs.Spared.{needs-none, needs-within, needs-stay, known-more}
 use Rattle.loading.proofs.survey.survey_rows.Needs as need
+use Rattle.loading.specs.Surveys.{Row-passes}
 
 pub rows-holds : need.rows-holds
 rows-holds c = (omega arith, λ k h. absurd (omega arith), c .pre .room, λ k. c .pre .blank k ∙ sym (needs-none (c .args .table .now) k))

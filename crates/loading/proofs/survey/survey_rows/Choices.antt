@@ -3,8 +3,8 @@ use Prim.Native.Nat.{ℕ, _-_, _<_, _≤_}
 use mathlib.Core.Path.{_≡_}
 use lib.ListN.{length}
 use Rattle.rows.specs.Rows.{rows}
-use Rattle.loading.specs.Questions.{Row-passes}
-use Rattle.loading.specs.Stacks.{known-of, needs-below}
+use Rattle.loading.specs.Stacks.{needs-below}
+use Rattle.loading.specs.Surveys.{Row-passes, known-of}
 use Rattle.loading.proofs.survey.survey_rows.Given as given
 
 abbrev pub Inv-rows : given.InvT-rows
