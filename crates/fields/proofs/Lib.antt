@@ -1,0 +1,3 @@
+pub mod Leftover
+pub mod Sole
+pub mod Turns
