@@ -1,0 +1,17 @@
+pub mod Arithmetic
+pub mod Faults
+pub mod Cells
+pub mod Rules
+pub mod Machine
+pub mod Traces
+pub mod Unfinished
+pub mod Moves
+pub mod Agreement
+pub mod Cuts
+pub mod Worked
+pub mod Casebook
+pub mod Simp
+pub mod Reading
+pub mod Coherence
+pub mod Simulation
+pub mod WholeRuns
