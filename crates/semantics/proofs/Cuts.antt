@@ -2,8 +2,8 @@
 use mathlib.Core.Path.{_≡_, refl, ap, subst}
 use mathlib.Core.Logic.{inl, inr}
 use mathlib.Core.Bool.{cond}
-use mathlib.Core.List.{List}
-use Prim.Native.Nat.{ℕ, _+_, _-_, _≤_, _<_}
+use mathlib.Core.List.{List, [], _∷_}
+use Prim.Native.Nat.{ℕ, zero, suc, _+_, _-_, _≤_, _<_}
 use native.Mathlib.Omega.{arith as linear}
 use native.Mathlib.Decide.{decLe}
 use lib.Dec.{leb}
@@ -13,7 +13,7 @@ use Rattle.rows.specs.declared.row.Row.{Row}
 use Rattle.semantics.specs.Machine.{Configuration, Transition}
 use Rattle.semantics.specs.Traces.{Takes, none, more}
 use Rattle.semantics.specs.Cuts.{largest-slice, total, Halted, Serves, used-up, halts, serves-on, Slices, no-slice, served, turned-down, Cut-anywhere, Cuts-do-not-matter}
-use Rattle.semantics.proofs.Step.{one-transition}
+use Rattle.semantics.proofs.Step.{one-transition, machine-is-deterministic}
 
 module _ (rows : ℕ → Option Row) where
   sized : {n n′ : ℕ} {s t : Configuration} → n ≡ n′ → Serves rows s n t → Serves rows s n′ t
@@ -60,8 +60,27 @@ module _ (rows : ℕ → Option Row) where
   made-all {u} (halts z) w = absurd (z u w)
   made-all (serves-on w′ d) w = more w′ (made-all d w)
 
+  -- where a number stands against it or no rule fits, there is no transition; so a slice of any length can be served
+  one-slice : (n : ℕ) (s : Configuration) → (t : Configuration) × Serves rows s n t
+  one-slice zero s = (s, used-up)
+  one-slice (suc n) s = elim (machine-is-deterministic rows .one-of-three s) [
+    | inl d ↦ let r = one-slice n (d .0) in (r .0, serves-on (d .1) (r .1))
+    | inr e ↦ elim e [
+      | inl f ↦ (s, halts (λ t w. machine-is-deterministic rows .not-both s t (f .0) w (f .1)))
+      | inr z ↦ (s, halts (z .no-transition))
+    ]
+  ]
+
+  all-slices : (l : List ℕ) (s : Configuration) → (t : Configuration) × Slices rows s l t
+  all-slices [] s = (s, no-slice)
+  all-slices (a ∷ l) s = elim (decLe a largest-slice) [
+    | yes le ↦ let d = one-slice a s in let r = all-slices l (d .0) in (r .0, served le (d .1) (r .1))
+    | no not-le ↦ let r = all-slices l s in (r .0, turned-down (omega linear) (r .1))
+  ]
+
   cut-anywhere : (s : Configuration) → Cut-anywhere rows s
   cut-anywhere s = record {
+    leads = λ l. all-slices l s;
     by-sums = λ l l′ t u d d′ e. one-way (together d) (together d′) e;
     by-ends = λ l l′ t u d d′ z z′. elim (decLe (total l) (total l′)) [
       | yes le ↦ one-way (longer (together d) z le) (together d′) refl

@@ -35,6 +35,8 @@ module _ (rows : ℕ → Option Row) where
     turned-down : {s u : Configuration} {a : ℕ} {l : List ℕ} → largest-slice < a → Slices s l u → Slices s (a ∷ l) u
 
   pub record Cut-anywhere (s : Configuration) : Type 0 where
+    -- every list of slices leads somewhere
+    pub leads : (l : List ℕ) → (t : Configuration) × Slices s l t
     -- equal sums lead to equal configurations
     pub by-sums : (l l′ : List ℕ) (t u : Configuration) → Slices s l t → Slices s l′ u → total l ≡ total l′ → t ≡ u
     -- and a run that has come to its end has come to the one end, whatever the sums
