@@ -1,4 +1,6 @@
 // Runs a job: one table on several boards, each with a store, stacks and slices of its own.
+#![tactic(auto)]
+
 use crate::arguments::{Request, asked_for};
 use crate::bench::{Outcome, run_all};
 use crate::report::report;

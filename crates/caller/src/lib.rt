@@ -1,4 +1,6 @@
 // A board's frame timer in small: what a caller of the machine writes, and what he cannot write.
+#![tactic(auto)]
+
 ghost use Rattle.stack.specs.Contents.{places};
 ghost use Rattle.table.specs.Places.{table_of};
 ghost use Rattle.transition.specs.Steps.{configuration};

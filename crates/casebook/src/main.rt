@@ -1,4 +1,6 @@
 // Runs the twelve worked cases on a board, and prints how each ended.
+#![tactic(auto)]
+
 ghost use Rattle.std.specs.Prelude.{◌≡◌, ◌≤◌, Some};
 ghost use Rattle.worked.specs.Lines.{claimed_line};
 

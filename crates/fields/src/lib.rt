@@ -1,4 +1,6 @@
 // Reading a text: its fields, the numbers that they write, and places in it for messages.
+#![tactic(auto)]
+
 pub mod blank;
 pub mod number;
 pub mod place;

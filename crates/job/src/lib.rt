@@ -1,4 +1,6 @@
 // A job read from its text: the limit, the table, the cells and the boards of the lines.
+#![tactic(auto)]
+
 pub mod bad_line;
 mod draft;
 mod finish;

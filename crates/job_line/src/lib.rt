@@ -1,4 +1,6 @@
 // One line of a job: what it says, or what is wrong with it.
+#![tactic(auto)]
+
 pub mod board_line;
 pub mod cell_line;
 pub mod line;

@@ -1,4 +1,6 @@
 // Runs on a board at their edges, by example.
+#![tactic(auto)]
+
 #[cfg(test)]
 mod beginning;
 #[cfg(test)]

@@ -1,2 +1,4 @@
 // A stack over memory that the caller lends.
+#![tactic(auto)]
+
 pub mod stack;

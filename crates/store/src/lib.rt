@@ -1,4 +1,6 @@
 // Stores of 256 cells: what a store stands for, and the makes that stand on other stores.
+#![tactic(auto)]
+
 pub mod alike;
 pub mod cover;
 pub mod known;

@@ -1,4 +1,6 @@
 // The makes of a store at their edges, by example.
+#![tactic(auto)]
+
 #[cfg(test)]
 mod cover_tests;
 pub mod generic;

@@ -1,4 +1,6 @@
 // The program place: it takes rule tables in, and holds one that is loaded at all times.
+#![tactic(auto)]
+
 pub mod program;
 
 pub use loading::needs::Needs;

@@ -1,4 +1,6 @@
 // Examples of loading, each proved safe and then run.
+#![tactic(auto)]
+
 #[cfg(test)]
 mod accepted;
 #[cfg(test)]

@@ -1,4 +1,6 @@
 // Reads a rule table from standard input, and says what loading it answers.
+#![tactic(auto)]
+
 use crate::arguments::{Request, asked_for};
 use crate::checked::checked;
 use crate::complaint::complaint;

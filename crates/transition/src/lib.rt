@@ -1,4 +1,6 @@
 // One transition of the row machine, over any store.
+#![tactic(auto)]
+
 mod exchange;
 mod finish;
 mod found;
