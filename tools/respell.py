@@ -20,12 +20,17 @@ STOP = r"\s(){}\[\],;.:\"`|λ"
 NAME = re.compile(rf"[^{STOP}]+")
 DECLARED = re.compile(r"^\s*\|?\s*(?:(?:abbrev|unfoldable|pub|data|record|ruleset)\s+)*([^\s(){}:λ.,|]+)\s+(?:[({][^=]*)?:(?:\s|$)")
 DATA = re.compile(r"^\s*(?:pub\s+)?(?:data|record)\s+([^\s(){}:λ.,]+)")
+RECORD = re.compile(r"^(\s*)(?:pub\s+)?record\s.*\bwhere\s*$")
+FIELD = re.compile(r"^\s+(?:pub\s+)?([^\s(){}:λ.,|]+)\s+:")
 GOAL = re.compile(r"\bgoal\.([^\s(){}:λ.,;]+)")
-# a name behind a dot is one of ours only behind the name of a module, or as a field of our own records
+# a name behind a dot is one of ours only behind the name of a module, or where it is a field of a record of ours
 MODULES = {"machine", "simp", "store", "answer", "fate", "item", "no", "option", "progress", "row", "seen", "sort", "stop"}
-FIELDS = {"no-transition", "few-places"}
 # where the plain spelling would fall together with another name
 OTHERWISE = {}
+
+
+class Names(set):
+    fields = frozenset()
 
 
 def spelled(name):
@@ -60,7 +65,23 @@ def declared():
             m = DATA.match(line) or DECLARED.match(line)
             if m and "-" in m.group(1).strip("-"):
                 ours.add(m.group(1))
-    return {n for n in ours if n not in made and re.match(r"[A-Za-z]", n)}, made
+    return Names({n for n in ours if n not in made and re.match(r"[A-Za-z]", n)})
+
+
+def fields():
+    """The names with a dash of the fields of our own records."""
+    found = set()
+    for path in files(".antt"):
+        within = None
+        for line in read(path).split("\n"):
+            head = RECORD.match(line)
+            if head:
+                within = len(head.group(1))
+            elif within is not None and (not line.strip() or len(line) - len(line.lstrip()) <= within):
+                within = None
+            elif within is not None and FIELD.match(line):
+                found.add(FIELD.match(line).group(1))
+    return {n for n in found if "-" in n}
 
 
 def turned(text, names):
@@ -74,7 +95,7 @@ def turned(text, names):
         if before.endswith("."):
             qualifier = re.search(r"([^\s(){}\[\],;:]+)\.$", before)
             q = qualifier.group(1) if qualifier else ""
-            if not (name in FIELDS or q in MODULES or q.startswith("Rattle.")):
+            if not (name in names.fields or q in MODULES or q.startswith("Rattle.")):
                 return name
         return spelled(name)
 
@@ -108,14 +129,15 @@ def fallen_together(names):
     said += [f"one spelling for {', '.join(v)}: {k}" for k, v in by_new.items() if len(v) > 1]
     for path in files(".antt", ".rt"):
         there = set(NAME.findall(without_comments(read(path)) if path.endswith(".antt") else read(path)))
-        for n in sorted(there & names):
+        for n in sorted(there & set(names)):
             if spelled(n) in there:
                 said.append(f"{path}: {n} and {spelled(n)}")
     return said
 
 
 def main(argv):
-    names, made = declared()
+    names = declared()
+    names.fields = fields()
     if argv == ["--look"]:
         print("\n".join(f"{n} -> {spelled(n)}" for n in sorted(names)))
         print("\n".join("together: " + s for s in fallen_together(names)))

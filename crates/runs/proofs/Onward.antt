@@ -39,4 +39,4 @@ module _ (table : List ℕ) (loaded : Loaded table) (k h limit a n : ℕ) (s : C
   pub simp_onward : SimpOnward table n s b
   simp_onward =
       let z = going (row_at table) k h limit g in
-      (z.0, z.1, λ S reads. (row_machine_is_simp table loaded).simulated-all s (left_of b) S z.0 z.2 reads)
+      (z.0, z.1, λ S reads. (row_machine_is_simp table loaded).simulated_all s (left_of b) S z.0 z.2 reads)

@@ -59,7 +59,7 @@ module _ (rows : ℕ → Option Row) where
   one_slice (suc n) s = elim ((machine_is_deterministic rows).one_of_three s) [
     | inl d ↦ let r = one_slice n d.0 in (r.0, serves_on d.1 r.1)
     | inr e ↦ elim e [
-      | inl f ↦ (s, halts (λ t w. (machine_is_deterministic rows).not-both s t f.0 w f.1))
+      | inl f ↦ (s, halts (λ t w. (machine_is_deterministic rows).not_both s t f.0 w f.1))
       | inr z ↦ (s, halts z.no_transition)
     ]
   ]

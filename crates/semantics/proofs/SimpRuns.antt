@@ -84,7 +84,7 @@ module _ (table : List ℕ) (loaded : Loaded table) where
     executed : (m' : Cells) (n : ℕ) → Executes rows m (last_row table) m' n → SimpTakes S₀ n (simp⟨⟩ [] [] (memory_of m'))
     executed m' n d =
         let g = ((whole_runs table loaded m).finishing m' n).0 d in
-        let z = (row_machine_is_simp table loaded).simulated-all (program_over table m) (conf [] [] m') S₀ n g start_read in
+        let z = (row_machine_is_simp table loaded).simulated_all (program_over table m) (conf [] [] m') S₀ n g start_read in
         subst (λ T. SimpTakes S₀ n T) (end_read rows m' z.0 z.1) z.2
 
     finished_by : (M : Memory) (n : ℕ) → Followed (program_over table m) (simp⟨⟩ [] [] M) n →

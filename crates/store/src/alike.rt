@@ -7,8 +7,8 @@ use cells::cell::Cell;
 
 /// Whether the 256 cells of the two stores agree, each in every part.
 pub fn alike<S: Store>(one: &S, other: &S) -> bool
-    ensures decides { Decides result (EqualCells (cells one.now) (cells other.now)) }
-    ensures same { result ≡ true → cells one.now ≡ cells other.now }
+    ensures decides { Decides result (EqualCells (S.cells one.now) (S.cells other.now)) }
+    ensures same { result ≡ true → S.cells one.now ≡ S.cells other.now }
 {
     for k in 0..256u16 {
         let location = k as u8;

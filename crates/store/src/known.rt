@@ -8,7 +8,7 @@ use cells::cell::{Cell, KnownCell};
 
 /// The lowest known location from `from` on, with its cell, if there is one.
 pub fn known_from<S: Store>(store: &S, from: u16) -> Option<(u8, KnownCell)>
-    ensures { NextKnown (cells store.now) from result }
+    ensures { NextKnown (S.cells store.now) from result }
 {
     for k in from..256 {
         let location = k as u8;

@@ -14,7 +14,7 @@ not_ok q = let z : ◌≡◌ {A = ℕ} 0 1 = cc in omega linear
 
 pub simulated : (table : List ℕ) → Loaded table → (k h : ℕ) (s t : Configuration) (a : Result (Unit {0}) Stop) →
     Tried (row_at table) k h s a t → a ≡ Ok tt → AsSimp table s 1 t
-simulated table loaded k h s t a (made d f) q S reads = (row_machine_is_simp table loaded).simulated-all s t S 1 (more d none) reads
+simulated table loaded k h s t a (made d f) q S reads = (row_machine_is_simp table loaded).simulated_all s t S 1 (more d none) reads
 simulated table loaded k h s t a (no_rule d) q S reads = absurd (not_ok q)
 simulated table loaded k h s t a (no_room d f) q S reads = absurd (not_ok q)
 simulated table loaded k h s t a (no_room_to_read d f) q S reads = absurd (not_ok q)

@@ -35,7 +35,7 @@ module _ (table : List ℕ) (m : Cells) (limit : ℕ) (l : List ℕ) (left : Lis
       let q = (w.faults tt f m' n).1 (d, lt) in so q.0 q.1 (λ _. subst (λ m. Hold m left) (sym q.2) h)
   matches x i s w (runs_out none) =
       let neither : DeriveNeither table m limit = (λ m' n d. none (new_cells m') n d.0 d.1, λ f m' n d. none (a_fault f m') n d.0 d.1) in
-      let q = ((w.runs-out tt).1 neither).1 in
+      let q = ((w.runs_out tt).1 neither).1 in
       so q.0 q.1 (λ no. absurd (no refl))
 
 module _ (c : Case) (worked : Worked c) (short : c.limit ≤ largest_slice) (k h : ℕ) where

@@ -5,8 +5,8 @@ use Rattle.loading.specs.Surveys.{known_of}
 use Rattle.loading.proofs.Passing.{each_part, parts_lower, row_within}
 use Rattle.loading.proofs.survey.row_needs.Goals as goal
 
-pub needs-of-requires : goal.needs-of-requires
-needs-of-requires c =
+pub needs_of-requires : goal.needs_of-requires
+needs_of-requires c =
     let spells : decoded (words_at c.args.table.now c.args.p) ≡ Some c.in-Some.row = cc in
     record {
       parts =
@@ -19,4 +19,4 @@ pub returns-in-Some : goal.returns-in-Some
 returns-in-Some c =
     let here = row_within c.args.table.now c.args.p c.requires.there.0 in
     let spells : row_at c.args.table.now c.args.p ≡ Some c.in-Some.row = cc in
-    c.needs-of.ensures ∙ sym (ap (of_row (known_of c.args.known.now)) spells)
+    c.needs_of.ensures ∙ sym (ap (of_row (known_of c.args.known.now)) spells)

@@ -1,4 +1,4 @@
-use Rattle.std.proofs.Common.{◌≡◌, refl, rules}
+use Rattle.std.proofs.Common.{◌≡◌, refl, rules, sym, ◌∙◌, below_more}
 use Rattle.cells.specs.Cells.{EqualCells}
 use Rattle.cells.proofs.Laws.{equal_cells}
 use Rattle.store.proofs.alike.alike.Goals as goal
@@ -13,3 +13,9 @@ returns g c =
       decides = (λ _. all, λ _. refl);
       same = λ _. equal_cells (s.cells one) (s.cells other) (s.bounded one) (s.bounded other) all;
     }
+
+pub loop-k-preserved : goal.loop-k-preserved
+loop-k-preserved g c =
+    let h = c.if-ne.ensures tt in
+    let told : c.tell.result ≡ c.tell-in-loop-k.result = ? in
+    below_more _ _ c.loop-k.invariant (sym c.tell.ensures.tells ∙ told ∙ c.tell-in-loop-k.ensures.tells)

@@ -2,16 +2,16 @@ use Rattle.std.proofs.Common.{◌+◌, ◌≤◌, length, sym, refl, arith, rule
 use Rattle.std.proofs.lemmas.List.{length-drop, drop-drop}
 use Rattle.stack.proofs.stack.Stack.lose.Goals as goal
 
-pub invariant-of-self : goal.invariant-of-self
-invariant-of-self g c =
+pub invariant_of-self : goal.invariant_of-self
+invariant_of-self g c =
     let s = c.args.self.now in
     let within : s.top ≤ length s.items.now = s.within in
-    (omega (arith, c.requires, length-drop s.top s.items.now), tt)
+    record { within = omega (arith, c.requires, length-drop s.top s.items.now) }
 
-pub overflow-add-self : goal.overflow-add-self
-overflow-add-self g c =
+pub overflow_add-self : goal.overflow_add-self
+overflow_add-self g c =
     let s = c.args.self.now in
-    let within : s.top + c.args.taken ≤ length s.items.now = (invariant-of-self g c).0 in
+    let within : s.top + c.args.taken ≤ length s.items.now = (invariant_of-self g c).within in
     search rules
 
 pub returns : goal.returns
