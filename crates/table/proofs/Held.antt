@@ -3,7 +3,7 @@ use Rattle.std.proofs.Common.{◌≡◌, ℕ, ◌<◌, List, [], ◌∷◌, IfSo
 use mathlib.Core.Logic.{∥∥₁_elim}
 use std.HLevel.{Π_prop}
 use base.Stored.{Coded-set}
-use denote.Struct.Props.{props, three_prop}
+use denote.Struct.Props.{props}
 use Rattle.loading.specs.declared.layout.Field.{Field}
 use Rattle.loading.specs.declared.layout.Field.TheVariants as field
 use Rattle.loading.specs.declared.layout.Layout.{Layout}
@@ -70,7 +70,7 @@ row_once Q q w = at (layout_of w.kind)
   where
     at : (l : Option Layout) → IsProp (IfSome l (Each Q w))
     at None = hlevel props
-    at (Some l) = three_prop (q l.a w.a) (q l.b w.b) (q l.c w.c)
+    at (Some l) = hlevel (props, q)
 
 yes_once : (table : List ℕ) (e : Refusal) → IsProp (Yes table e)
 yes_once table no.Length = hlevel props

@@ -16,6 +16,5 @@ returns g c =
 
 pub loop-k-preserved : goal.loop-k-preserved
 loop-k-preserved g c =
-    let h = c.if-ne.ensures tt in
-    let told : c.tell.result ≡ c.tell-in-loop-k.result = ? in
+    let told : c.tell.result ≡ c.tell-in-loop-k.result = search rules in
     below_more _ _ c.loop-k.invariant (sym c.tell.ensures.tells ∙ told ∙ c.tell-in-loop-k.ensures.tells)
