@@ -1,6 +1,8 @@
 use Rattle.std.proofs.Common.{◌≡◌, refl, rules, sym, ◌∙◌, below_more}
 use Rattle.cells.specs.Cells.{EqualCells}
+use Rattle.std.proofs.lemmas.Bool.{not-false}
 use Rattle.cells.proofs.Laws.{equal_cells}
+use Rattle.cells.proofs.Equality.{same_cell}
 use Rattle.store.proofs.alike.alike.Goals as goal
 
 pub returns : goal.returns
@@ -16,5 +18,5 @@ returns g c =
 
 pub loop-k-preserved : goal.loop-k-preserved
 loop-k-preserved g c =
-    let told : c.tell.result ≡ c.tell-in-loop-k.result = search rules in
+    let told : c.tell.result ≡ c.tell-in-loop-k.result = same_cell _ _ (not-false _ (sym c.if-ne.ensures)) in
     below_more _ _ c.loop-k.invariant (sym c.tell.ensures.tells ∙ told ∙ c.tell-in-loop-k.ensures.tells)
