@@ -8,12 +8,12 @@ use Rattle.pair_list.proofs.PairLemmas.{unlisted, listed_here, set_writes, set_s
 use Rattle.pair_list.proofs.pairs.PairListStore.put.Goals as goal
 
 -- no pair names the location
-pub returns-in-default : goal.returns-in-default
-returns-in-default c =
+pub returns-in_default : goal.returns-in_default
+returns-in_default c =
     let ws = c.args.self.now.words.now in
     let l = c.args.location in
     let n = c.args.number in
-    let unknown = unlisted ws l (sym c.in-default.is ∙ c.place.ensures.place) in
+    let unknown = unlisted ws l (sym c.in_default.is ∙ c.place.ensures.place) in
     let no_place : accepts (pair_cells ws l) n ≡ false = rw unknown in
     record {
       answers = rw unknown;
@@ -23,8 +23,8 @@ returns-in-default c =
       frames = refused_frames ws l n no_place;
     }
 
-pub returns-in-err-admit : goal.returns-in-err-admit
-returns-in-err-admit c =
+pub returns-in_err-admit : goal.returns-in_err-admit
+returns-in_err-admit c =
     let ws = c.args.self.now.words.now in
     let l = c.args.location in
     let n = c.args.number in
@@ -33,10 +33,10 @@ returns-in-err-admit c =
     let word : SFits w32 (get_or ws i (pos 0)) = search rules in
     let small : l < 256 = omega arith in
     let found = sym c.in-Some.ensures.place in
-    let fault = err_from_is_err_and c.from-residual.result c.from-residual.ensures.1 in
-    let told = simp (to_z-of_z, c.listed.ensures) at c.in-err-admit.ensures in
+    let fault = err_from_is_err_and c.from_residual.result c.from_residual.ensures.1 in
+    let told = simp (to_z-of_z, c.listed.ensures) at c.in_err-admit.ensures in
     let said = told ∙ ap (λ x. admission x l n) (sym (listed_here ws l i found small)) in
-    let denied = refused (pair_cells ws l) l n c.in-err-admit.field-0.0 (sym said) in
+    let denied = refused (pair_cells ws l) l n c.in_err-admit.field-0.0 (sym said) in
     record {
       answers = rw (fault.1, fault.2) said;
       writes = sym (left_refused (pair_cells ws l) n denied);
@@ -55,7 +55,7 @@ returns c =
     let word : SFits w32 (get_or ws i (pos 0)) = search rules in
     let small : l < 256 = omega arith in
     let found = sym c.in-Some.ensures.place in
-    let told = simp (to_z-of_z, c.listed.ensures) at c.in-ok-admit.ensures in
+    let told = simp (to_z-of_z, c.listed.ensures) at c.in_ok-admit.ensures in
     let said = told ∙ ap (λ x. admission x l n) (sym (listed_here ws l i found small)) in
     let granted = accepted (pair_cells ws l) l n (sym said) in
     let same = ap (set ws i) (to_z-of_z w32 n fits) in

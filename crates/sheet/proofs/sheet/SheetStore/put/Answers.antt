@@ -20,17 +20,17 @@ returns-then-i-self c =
       frames = refused_frames rs c.args.location c.args.number no_place;
     }
 
-pub returns-in-err-admit : goal.returns-in-err-admit
-returns-in-err-admit c =
+pub returns-in_err-admit : goal.returns-in_err-admit
+returns-in_err-admit c =
     let rs = c.args.self.now.records.now in
     let l = c.args.location in
     let n = c.args.number in
     let fits : SFits w32 n = c.ranges.number in
     let small : l < 256 = omega arith in
-    let fault = err_from_is_err_and c.from-residual.result c.from-residual.ensures.1 in
-    let told = simp (to_z-of_z, c.cell.ensures) at c.in-err-admit.ensures in
+    let fault = err_from_is_err_and c.from_residual.result c.from_residual.ensures.1 in
+    let told = simp (to_z-of_z, c.cell.ensures) at c.in_err-admit.ensures in
     let said = told ∙ ap (λ x. admission x l n) (sym (here rs l small)) in
-    let denied = refused (sheet_cells rs l) l n c.in-err-admit.field-0.0 (sym said) in
+    let denied = refused (sheet_cells rs l) l n c.in_err-admit.field-0.0 (sym said) in
     record {
       answers = rw (fault.1, fault.2) said;
       writes = sym (left_refused (sheet_cells rs l) n denied);
@@ -46,14 +46,14 @@ returns c =
     let n = c.args.number in
     let fits : SFits w32 n = c.ranges.number in
     let small : l < 256 = omega arith in
-    let told = simp (to_z-of_z, c.cell.ensures) at c.in-ok-admit.ensures in
+    let told = simp (to_z-of_z, c.cell.ensures) at c.in_ok-admit.ensures in
     let said = told ∙ ap (λ x. admission x l n) (sym (here rs l small)) in
-    let new = simp to_z-of_z at c.with-number.ensures in
+    let new = simp to_z-of_z at c.with_number.ensures in
     let granted = accepted (sheet_cells rs l) l n (sym said) in
     record {
       answers = said;
-      writes = set_writes rs l n c.with-number.result new small c.if-i-self.false granted;
-      spares = set_spares rs l c.with-number.result;
+      writes = set_writes rs l n c.with_number.result new small c.if-i-self.false granted;
+      spares = set_spares rs l c.with_number.result;
       keeps = refl;
-      frames = set_frames rs l n c.with-number.result new granted;
+      frames = set_frames rs l n c.with_number.result new granted;
     }
