@@ -20,7 +20,11 @@ pub fn loads(rt: &impl Abort, words: &[u32], control: u16, results: u16) -> Resu
             assert_eq!(rt; place.table().len(), words.len());
             Ok(())
         }
-        Err(e) => Err(Fail::new("refused")).note(e.number()),
+        Err(e) => {
+            let question = e.number();
+            assert!(rt; false, "refused {question}");
+            Err(Fail::new("refused"))
+        }
     }
 }
 

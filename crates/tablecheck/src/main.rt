@@ -7,6 +7,7 @@ use crate::complaint::complaint;
 use crate::trouble::Trouble;
 use fields::read::ReadError;
 use std::io::Read;
+use std::process::ExitCode;
 
 mod arguments;
 mod checked;
@@ -25,12 +26,14 @@ Prints one line:
 A word that is no 32-bit number is told on standard error with its place, and the status is 1.";
 
 // What goes wrong is told here, once, and the status is then 1.
-fn main(rt: HostRuntime) -> Result<(), Trouble> {
-    let ending = run(&rt);
-    if let Err(trouble) = &ending {
-        let _ = eprintln!(rt; "tablecheck: {trouble}");
+fn main(rt: HostRuntime) -> ExitCode {
+    match run(&rt) {
+        Ok(()) => ExitCode::SUCCESS,
+        Err(trouble) => {
+            let _ = eprintln!(rt; "tablecheck: {trouble}");
+            ExitCode::FAILURE
+        }
     }
-    ending
 }
 
 fn run(rt: &HostRuntime) -> Result<(), Trouble> {

@@ -14,8 +14,8 @@ shown_more bytes old new i h so more =
 
 pub loop-b-preserved : goal.loop-b-preserved
 loop-b-preserved c =
-    shown_more c.args.bytes.now (string_bytes c.loop-b.out) (string_bytes c.push-byte.new.out) c.loop-b.b-index c.loop-b-test.true c.loop-b.invariant
-    c.in-ok-push-byte.ensures
+    shown_more c.args.bytes.now (string_bytes c.loop-b.out) (string_bytes c.push_byte.new.out) c.loop-b.b-index c.loop-b-test.true c.loop-b.invariant
+    c.in_ok-push_byte.ensures
 
 pub returns : goal.returns
 returns c = c.loop-b.invariant ∙ ap (flat_map shown_byte) (take_all c.loop-b.b-index c.args.bytes.now c.loop-b-test.false)
