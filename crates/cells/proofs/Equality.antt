@@ -1,5 +1,5 @@
 -- A derived `==` that answers yes says that the two are one.
-use Rattle.std.proofs.Common.{◌≡◌, ℕ, Bool, true, false, ◌&&◌, not, ℤ, refl, sym, ap, ◌∙◌, arith}
+use Rattle.std.proofs.Common.{◌≡◌, Bool, true, false, ◌&&◌, ℤ, refl, ap, ◌∙◌, arith}
 use Rattle.std.specs.Ordering.{int_eq}
 use Rattle.cells.specs.declared.cell.Mark.{Mark}
 use Rattle.cells.specs.declared.cell.Mark.TheVariants.{Free, Fixed}
@@ -64,7 +64,7 @@ same_cell (Known h) (Known k) e =
     let high : (int_eq h.highest k.highest && (mark_eq h.mark k.mark && content_eq h.content k.content)) ≡ true = right_true _ _ low in
     let mark : (mark_eq h.mark k.mark && content_eq h.content k.content) ≡ true = right_true _ _ high in
     ap Known (known_one h k
-      (same_number _ _ (left_true _ _ low))
-      (same_number _ _ (left_true _ _ high))
-      (same_mark _ _ (left_true _ _ mark))
-      (same_content _ _ (right_true _ _ mark)))
+    (same_number _ _ (left_true _ _ low))
+    (same_number _ _ (left_true _ _ high))
+    (same_mark _ _ (left_true _ _ mark))
+    (same_content _ _ (right_true _ _ mark)))

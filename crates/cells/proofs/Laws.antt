@@ -1,18 +1,16 @@
 -- The laws of cells, of reading and of putting, for proofs that do not open the definitions.
-use Rattle.std.proofs.Common.{◌≡◌, ℕ, suc, ◌<◌, ◌≤◌, Bool, true, false, cond, ◌&&◌, eqb, ltb, ℤ, Ok, Err, Result, sym, refl, ap, ◌∙◌, inl, inr, arith, eq-eqb}
+use Rattle.std.proofs.Common.{◌≡◌, ℕ, suc, ◌<◌, ◌≤◌, Bool, true, false, cond, ◌&&◌, ℤ, Ok, Err, Result, sym, refl, ap, ◌∙◌, inl, inr, arith, eq-eqb}
 use mathlib.Core.Path.{fun_ext}
 use Rattle.std.proofs.lemmas.Bool.Decides.{eqb_tells, leb_tells}
 use Rattle.cells.specs.declared.cell.Mark.{Mark}
 use Rattle.cells.specs.declared.cell.Mark.TheVariants.{Free, Fixed}
-use Rattle.cells.specs.declared.cell.Content.{Content}
 use Rattle.cells.specs.declared.cell.Content.TheVariants.{Unset, Number}
-use Rattle.cells.specs.declared.cell.KnownCell.{KnownCell}
 use Rattle.cells.specs.declared.cell.Cell.{Cell}
 use Rattle.cells.specs.declared.cell.Cell.TheVariants.{Unknown, Known}
 use Rattle.cells.specs.declared.fault.StoreFault.{StoreFault}
 use Rattle.cells.specs.declared.fault.StoreFault.TheVariants.{UnknownLocation, FixedCell, OutsideLimits}
 use Rattle.cells.specs.Faults.{location_of, relocated}
-use Rattle.cells.specs.Cells.{within, Lawful, with_content, fixed, known_if, at_locations, Bounded, EqualCells}
+use Rattle.cells.specs.Cells.{within, Lawful, with_content, fixed, at_locations, Bounded, EqualCells}
 use Rattle.cells.specs.Reading.{reading}
 use Rattle.cells.specs.Putting.{free, accepts, put_left, after_put, admission_known, admission, put_answer}
 

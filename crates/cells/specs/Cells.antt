@@ -1,7 +1,6 @@
 -- A cell, its parts, and the law that every cell of a store meets.
 -- What a store stands for is a function from locations to cells, unknown past the 256.
-use Rattle.std.specs.Prelude.{◌≡◌, ℕ, ◌<◌, ◌≤◌, Bool, true, false, cond, ◌&&◌, ℤ, pos, negsuc, int_le, nat_lt}
-use Rattle.cells.specs.declared.cell.Mark.{Mark}
+use Rattle.std.specs.Prelude.{◌≡◌, ℕ, ◌<◌, ◌≤◌, Bool, true, cond, ◌&&◌, ℤ, pos, negsuc, int_le, nat_lt}
 use Rattle.cells.specs.declared.cell.Mark.TheVariants.{Free, Fixed}
 use Rattle.cells.specs.declared.cell.Content.{Content}
 use Rattle.cells.specs.declared.cell.Content.TheVariants.{Unset, Number}

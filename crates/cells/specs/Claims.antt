@@ -1,10 +1,10 @@
 -- What holds of every put, whatever the cells: the laws that a run over a store leans on.
-use Rattle.std.specs.Prelude.{◌≡◌, ℕ, true, false, ℤ, Ok, Err}
+use Rattle.std.specs.Prelude.{◌≡◌, ℕ, true, ℤ, Ok, Err}
 use Rattle.cells.specs.declared.cell.Content.TheVariants.{Unset}
 use Rattle.cells.specs.declared.cell.Cell.{Cell}
 use Rattle.cells.specs.declared.fault.StoreFault.{StoreFault}
 use Rattle.cells.specs.Faults.{location_of}
-use Rattle.cells.specs.Cells.{Lawful, Bounded, with_content}
+use Rattle.cells.specs.Cells.{Lawful, with_content}
 use Rattle.cells.specs.Reading.{reading}
 use Rattle.cells.specs.Putting.{accepts, put_answer, after_put}
 

@@ -1,5 +1,5 @@
 -- Reading a number digit by digit: the number so far, and the digits that are left.
-use Rattle.std.proofs.Common.{◌≡◌, ℕ, suc, ◌+◌, ◌-◌, ◌*◌, ◌^◌, ◌<◌, ◌≤◌, List, [], ◌∷◌, length, sym, ap, ◌∙◌, mul_assoc, add-mul, le-mul_of_pos_right, arith}
+use Rattle.std.proofs.Common.{◌≡◌, ℕ, suc, ◌+◌, ◌-◌, ◌*◌, ◌^◌, ◌<◌, List, [], ◌∷◌, length, sym, ap, mul_assoc, add-mul, le-mul_of_pos_right, arith}
 use native.Mathlib.Nat.{pow-succ', one-le-pow}
 use Rattle.fields.specs.Numbers.{Digit, Digits, number_of}
 

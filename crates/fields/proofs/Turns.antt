@@ -1,10 +1,10 @@
 -- Fields read one after the other.
-use Rattle.std.proofs.Common.{◌≡◌, ℕ, List, [], ◌∷◌, ◌++◌, sym, refl, ap, ◌∙◌, subst}
+use Rattle.std.proofs.Common.{◌≡◌, ℕ, List, [], ◌∷◌, ◌++◌, sym, refl, ◌∙◌, subst}
 use Rattle.std.proofs.ByRecursion.{All-push}
 use Rattle.std.proofs.lemmas.List.{map_push}
 use Rattle.fields.specs.declared.span.Span.{Span}
 use Rattle.fields.specs.Numbers.{Word, number_of}
-use Rattle.fields.specs.Reading.{Values, Words, ReadTo, FirstBad}
+use Rattle.fields.specs.Reading.{Values, ReadTo, FirstBad}
 use Rattle.fields.specs.Spans.{Next, InTurn, NoMore, FieldsOf, reached, bytes_of}
 use Rattle.fields.proofs.Sole.{begins, sole}
 

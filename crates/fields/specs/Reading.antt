@@ -5,7 +5,7 @@ use Rattle.fields.specs.declared.read.ReadError.{ReadError}
 use Rattle.fields.specs.declared.read.ReadError.TheVariants.{NoNumber, Memory}
 use Rattle.fields.specs.declared.span.Span.{Span}
 use Rattle.fields.specs.Numbers.{Word, number_of}
-use Rattle.fields.specs.Spans.{Next, InTurn, NoMore, FieldsOf, reached, bytes_of}
+use Rattle.fields.specs.Spans.{Next, InTurn, FieldsOf, reached, bytes_of}
 
 -- each field is a number that fits 32 bits
 abbrev pub Words : List ℕ → List Span → Type 0

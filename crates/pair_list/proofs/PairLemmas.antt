@@ -3,7 +3,6 @@ use Rattle.std.proofs.Common.{◌≡◌, ℕ, suc, ◌+◌, ◌<◌, ◌≤◌, 
 use Rattle.std.proofs.lemmas.Bool.Decides.{eqb_tells, nat_tests}
 use Rattle.std.specs.Option.{option_map}
 use Rattle.cells.specs.declared.cell.Content.TheVariants.{Number}
-use Rattle.cells.specs.declared.cell.Cell.{Cell}
 use Rattle.cells.specs.declared.cell.Cell.TheVariants.{Unknown, Known}
 use Rattle.cells.specs.Cells.{within, widest, with_content, known_if}
 use Rattle.pair_list.specs.Pairs.{names, place, listed, cell_at, pair_cells, words_after}

@@ -1,5 +1,5 @@
 -- The pair list: the cells that a list of words stands for, a location and then its number, and what a put does to the words.
-use Rattle.std.specs.Prelude.{◌≡◌, ℕ, suc, Bool, true, false, cond, List, [], ◌∷◌, get_or, set, ℤ, pos, negsuc, Some, None, Option, ◌==◌, slice_index_or, slice_set, refl}
+use Rattle.std.specs.Prelude.{◌≡◌, ℕ, suc, Bool, true, false, cond, List, [], ◌∷◌, get_or, ℤ, pos, negsuc, Some, None, Option, ◌==◌, slice_index_or, slice_set, refl}
 use Rattle.std.specs.Option.{option_map}
 use Rattle.cells.specs.declared.cell.Content.TheVariants.{Number}
 use Rattle.cells.specs.declared.cell.KnownCell.{KnownCell}

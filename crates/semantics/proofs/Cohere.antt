@@ -8,7 +8,6 @@ use Rattle.rows.specs.declared.row.Row.TheVariants as row
 use Rattle.rows.specs.Rows.{sort_of}
 use Rattle.rows.specs.Parts.{EachPart}
 use Rattle.semantics.specs.declared.arithmetic.ArithmeticFault.{ArithmeticFault}
-use Rattle.semantics.specs.declared.fault.Cause.TheVariants.{Arithmetic}
 use Rattle.semantics.specs.declared.fault.Fault.{Fault}
 use Rattle.semantics.specs.declared.item.Control.{Control}
 use Rattle.semantics.specs.declared.item.Control.TheVariants.{Whole, Finish}

@@ -1,7 +1,6 @@
 -- A transition of the row machine, read, is a transition of SIMP.
 use Rattle.std.proofs.Common.{◌≡◌, ℕ, Bool, true, false, cond, not, ◌&&◌, List, ◌∷◌, ℤ, Some, None, Ok, Option, sym, refl, ap, ◌∙◌, subst, subst₂, arith as linear}
 use Rattle.rows.specs.declared.row.Operator.{Operator}
-use Rattle.rows.specs.declared.row.Sort.TheVariants.{Command}
 use Rattle.rows.specs.declared.row.Row.{Row}
 use Rattle.rows.specs.declared.row.Row.TheVariants as row
 use Rattle.rows.specs.Parts.{EachPart}

@@ -1,5 +1,5 @@
 -- A put into a list of records.
-use Rattle.std.proofs.Common.{◌≡◌, ℕ, ◌<◌, ◌≤◌, Bool, true, false, cond, ◌&&◌, List, length, get_or, set, ℤ, sym, refl, ap, ◌∙◌, get_or-set_other, get_or-set_same}
+use Rattle.std.proofs.Common.{◌≡◌, ℕ, ◌<◌, ◌≤◌, Bool, true, false, ◌&&◌, List, length, get_or, set, ℤ, sym, ap, ◌∙◌, get_or-set_other, get_or-set_same}
 use lib.Signed.{le_z}
 use Rattle.std.proofs.lemmas.List.{get_or_past}
 use Rattle.cells.specs.declared.cell.Content.TheVariants.{Number}

@@ -1,12 +1,12 @@
 -- The sheet: the cells that a list of records stands for, and what a put does to the records.
-use Rattle.std.specs.Prelude.{◌≡◌, ℕ, Bool, true, false, cond, ◌&&◌, List, set, ℤ, pos, int_le, slice_index_or, slice_set, refl}
+use Rattle.std.specs.Prelude.{◌≡◌, ℕ, Bool, true, false, cond, ◌&&◌, List, ℤ, pos, int_le, slice_index_or, slice_set, refl}
 use Rattle.cells.specs.declared.cell.Mark.{Mark}
 use Rattle.cells.specs.declared.cell.Mark.TheVariants.{Free, Fixed}
 use Rattle.cells.specs.declared.cell.Content.{Content}
 use Rattle.cells.specs.declared.cell.Content.TheVariants.{Unset, Number}
 use Rattle.cells.specs.declared.cell.KnownCell.{KnownCell}
 use Rattle.cells.specs.declared.cell.Cell.{Cell}
-use Rattle.cells.specs.declared.cell.Cell.TheVariants.{Unknown, Known}
+use Rattle.cells.specs.declared.cell.Cell.TheVariants.{Known}
 use Rattle.sheet.specs.declared.record.Record.{Record}
 use Rattle.cells.specs.Cells.{content_within, Lawful, Bounded, known_if, at_locations}
 use Rattle.cells.specs.Meets.{if_lawful, located_lawful, located_bounded}

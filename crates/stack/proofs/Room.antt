@@ -1,5 +1,5 @@
 -- A stack never holds more than it has places, so fewer items always fit.
-use Rattle.std.proofs.Common.{◌≡◌, ℕ, ◌+◌, ◌-◌, ◌≤◌, Bool, true, cond, List, [], ◌++◌, length, drop, ap, ◌∙◌, arith, le-leb}
+use Rattle.std.proofs.Common.{◌≡◌, ℕ, ◌+◌, ◌≤◌, Bool, true, cond, List, [], ◌++◌, length, drop, ap, ◌∙◌, arith, le-leb}
 use Rattle.std.proofs.lemmas.List.{length-drop}
 use Rattle.stack.specs.declared.stack.Stack.{Stack}
 use Rattle.stack.specs.Contents.{contents, places, fits}

@@ -1,5 +1,5 @@
 -- The cover: the cells of another store, those from f to t fixed.
-use Rattle.std.specs.Prelude.{◌≡◌, ℕ, Bool, true, false, cond, ◌&&◌, ℤ, nat_le}
+use Rattle.std.specs.Prelude.{ℕ, Bool, cond, ◌&&◌, ℤ, nat_le}
 use Rattle.cells.specs.declared.cell.Cell.{Cell}
 use Rattle.cells.specs.declared.cell.Cell.TheVariants.{Unknown}
 use Rattle.cells.specs.Cells.{Lawful, Bounded, fixed}

@@ -1,4 +1,4 @@
-use Rattle.std.proofs.Common.{ℕ, ◌+◌, ◌<◌, List, [], ◌∷◌, get_or, drop, sym, subst}
+use Rattle.std.proofs.Common.{ℕ, ◌+◌, List, ◌∷◌, get_or, drop, sym, subst}
 use Rattle.std.proofs.lemmas.List.{drop_more, drop_all}
 use Rattle.fields.proofs.Leftover.{Leftover, left_none, left_more, left_refused, left_all}
 use Rattle.fields.proofs.number.number.Goals as goal

@@ -1,7 +1,7 @@
-use Rattle.std.proofs.Common.{◌≡◌, ◌<◌, true, false, get_or, set, pos, sym, refl, ap, ◌∙◌, arith, w32, SFits, rules}
+use Rattle.std.proofs.Common.{◌≡◌, ◌<◌, false, get_or, set, pos, sym, refl, ap, ◌∙◌, arith, w32, SFits, rules}
 use Rattle.std.proofs.lemmas.Result.{err_from_is_err_and}
 use Rattle.std.proofs.lemmas.Int.{to_z-of_z}
-use Rattle.pair_list.specs.Pairs.{pair_cells, listed}
+use Rattle.pair_list.specs.Pairs.{pair_cells}
 use Rattle.cells.specs.Putting.{accepts, admission}
 use Rattle.cells.proofs.Laws.{accepted, refused, left_refused}
 use Rattle.pair_list.proofs.PairLemmas.{unlisted, listed_here, set_writes, set_spares, set_frames, refused_frames}

@@ -1,4 +1,4 @@
-use Rattle.std.proofs.Common.{◌≡◌, ◌-◌, ◌<◌, Err, sym, ap, ◌∙◌, arith, w32, SFits}
+use Rattle.std.proofs.Common.{◌-◌, ◌<◌, Err, sym, ap, ◌∙◌, arith, w32, SFits}
 use Rattle.std.proofs.lemmas.Int.{to_z-of_z}
 use Rattle.cells.specs.Putting.{put_answer}
 use Rattle.cells.proofs.Laws.{moved_fault, moved_grant}
