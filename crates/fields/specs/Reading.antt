@@ -1,6 +1,6 @@
 -- A text read as a list of numbers.
 use Rattle.std.specs.Prelude.{◌≡◌, ℕ, ◌<◌, ◌≤◌, List, [], ◌∷◌, ◌++◌, map, length, Some, None, Option}
-use Rattle.std.specs.List.{AllByRecursion as All}
+use Rattle.std.specs.List.{AllByRecursion}
 use Rattle.fields.specs.declared.read.ReadError.{ReadError}
 use Rattle.fields.specs.declared.read.ReadError.TheVariants.{NoNumber, Memory}
 use Rattle.fields.specs.declared.span.Span.{Span}
@@ -9,7 +9,7 @@ use Rattle.fields.specs.Spans.{Next, InTurn, FieldsOf, reached, bytes_of}
 
 -- each field is a number that fits 32 bits
 abbrev pub Words : List ℕ → List Span → Type 0
-Words text fs = All (λ f. Word (bytes_of text f)) fs
+Words text fs = AllByRecursion (λ f. Word (bytes_of text f)) fs
 
 -- the numbers that the fields write
 abbrev pub values_of : List ℕ → List Span → List ℕ

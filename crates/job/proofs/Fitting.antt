@@ -1,6 +1,6 @@
 -- Cells that a pair list can hold.
 use Rattle.std.proofs.Common.{◌≡◌, ℕ, ◌<◌, Bool, List, [], ◌∷◌, length, get_or, ℤ, Decides, sym, ap, ◌∙◌, subst}
-use Rattle.std.specs.List.{ContainsAt as Has, AllByRecursion as All}
+use Rattle.std.specs.List.{ContainsAt as Has, AllByRecursion}
 use Rattle.std.proofs.ByRecursion.{has_get_or}
 use Rattle.cells.specs.declared.cell.KnownCell.{KnownCell}
 use Rattle.cells.specs.declared.cell.Cell.{Cell}
@@ -18,7 +18,7 @@ fit_known cell h n r is holds decides =
     )
 
 -- cells that a pair list can hold suit every board
-pub all_suit : (cells : List Cell) (boards : List BoardLine) → All Fit cells → All (Suits cells) boards
+pub all_suit : (cells : List Cell) (boards : List BoardLine) → AllByRecursion Fit cells → AllByRecursion (Suits cells) boards
 all_suit cells [] fit = tt
 all_suit cells (b ∷ boards) fit = ((λ _. fit), all_suit cells boards fit)
 

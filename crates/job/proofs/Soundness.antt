@@ -2,7 +2,7 @@
 use Rattle.std.proofs.Common.{ℕ, zero, suc, ◌+◌, ◌<◌, List, ◌∷◌, length, replicate, vec_items, sym, ap, ◌∙◌, subst, inl, inr, arith, length-append, length-set}
 use lib.ListN.{length-replicate}
 use Rattle.std.proofs.ByRecursion.{All-set, All-push}
-use Rattle.std.specs.List.{AllByRecursion as All}
+use Rattle.std.specs.List.{AllByRecursion}
 use Rattle.cells.specs.declared.cell.Cell.{Cell}
 use Rattle.cells.specs.declared.cell.Cell.TheVariants.{Unknown, Known}
 use Rattle.job_line.specs.declared.board_line.BoardLine.{BoardLine}
@@ -63,7 +63,7 @@ pub stays_sound : (n m : ℕ) (text : List ℕ) (s t : State) → Leads n text s
 stays_sound n m text s t ended so = so
 stays_sound n m text s t (goes_on line rest u some first took more) so = stays_sound (n + 1) m rest u t more (taken_in (n + 1) line s u took so)
 
-all_unknown : (k : ℕ) → All LawfulCell (replicate k Unknown)
+all_unknown : (k : ℕ) → AllByRecursion LawfulCell (replicate k Unknown)
 all_unknown zero = tt
 all_unknown (suc k) = (tt, all_unknown k)
 

@@ -1,6 +1,6 @@
 -- From what the lines said to a job.
 use Rattle.std.specs.Prelude.{◌≡◌, ℕ, max, List, [], ℤ, Some, None, vec_items}
-use Rattle.std.specs.List.{ContainsAt as Has, AllByRecursion as All}
+use Rattle.std.specs.List.{ContainsAt as Has, AllByRecursion}
 use Rattle.cells.specs.declared.cell.Cell.{Cell}
 use Rattle.cells.specs.declared.cell.Cell.TheVariants.{Unknown, Known}
 use Rattle.cells.specs.declared.cell.Content.TheVariants.{Number}
@@ -19,11 +19,11 @@ Fit (Known h) = (n : ℤ) × (h ≡ widest (Number n))
 
 -- a board of pairs asks that for all cells, and no other board asks anything
 abbrev pub Suits : List Cell → BoardLine → Type 0
-Suits cells b = b.make ≡ Pairs → All Fit cells
+Suits cells b = b.make ≡ Pairs → AllByRecursion Fit cells
 
 -- a board of pairs that the cells do not suit, told by its line
 pub data Unsuited (cells : List Cell) (boards : List BoardLine) : BadLine → Type 0 where
-  unfit : (b : BoardLine) → Has boards b → b.make ≡ Pairs → (All Fit cells → ⊥) → Unsuited cells boards (record { line = b.line; wrong = UnfitForPairs })
+  unfit : (b : BoardLine) → Has boards b → b.make ≡ Pairs → (AllByRecursion Fit cells → ⊥) → Unsuited cells boards (record { line = b.line; wrong = UnfitForPairs })
 
 -- the job is what the lines said; they said a limit and boards, and the boards suit the cells
 pub record Finishes (s : State) (j : Job) : Type 0 where
@@ -32,7 +32,7 @@ pub record Finishes (s : State) (j : Job) : Type 0 where
   pub cells : j.cells ≡ s.cells
   pub boards : vec_items j.boards ≡ s.boards
   pub some_board : s.boards ≡ [] → ⊥
-  pub suits : All (Suits s.cells) s.boards
+  pub suits : AllByRecursion (Suits s.cells) s.boards
 
 -- what is lacking is told on the last line, or on the first where there is none
 pub data Unfinished (s : State) (lines : ℕ) : BadLine → Type 0 where

@@ -1,6 +1,6 @@
 -- A job read from its text, line by line.
 use Rattle.std.specs.Prelude.{◌≡◌, ℕ, ◌+◌, ◌<◌, ◌≤◌, List, [], length, vec_items}
-use Rattle.std.specs.List.{AllByRecursion as All}
+use Rattle.std.specs.List.{AllByRecursion}
 use Rattle.cells.specs.declared.cell.Cell.{Cell}
 use Rattle.cells.specs.declared.cell.Cell.TheVariants.{Unknown, Known}
 use Rattle.job_line.specs.declared.board_line.BoardLine.{BoardLine}
@@ -48,8 +48,8 @@ FewPlaces b = (b.control ≤ 1000000) × (b.results ≤ 1000000)
 -- what cells and boards that were read can be relied on for
 pub record SoundParts (cells : List Cell) (boards : List BoardLine) : Type 0 where
   pub locations : length cells ≡ 256
-  pub lawful : All LawfulCell cells
-  pub few_places : All FewPlaces boards
+  pub lawful : AllByRecursion LawfulCell cells
+  pub few_places : AllByRecursion FewPlaces boards
 
 abbrev pub Sound : Job → Type 0
 Sound j = SoundParts j.cells (vec_items j.boards)

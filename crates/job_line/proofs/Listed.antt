@@ -1,6 +1,6 @@
 -- Words that are referred to, and what they write.
 use Rattle.std.proofs.Common.{◌≡◌, ℕ, ◌+◌, ◌<◌, List, [], ◌∷◌, ◌++◌, map, length, get_or, take, sym, refl, ap, ◌∙◌, subst, Bor}
-use Rattle.std.specs.List.{AllByRecursion as All}
+use Rattle.std.specs.List.{AllByRecursion}
 use Rattle.std.proofs.ByRecursion.{All-get_or, All-push}
 use Rattle.std.proofs.lemmas.List.{get_or-map, length-map, map_push, take_more}
 use Rattle.fields.specs.Numbers.{Word, number_of}
@@ -31,5 +31,5 @@ numbers_more xs i ns ms h so new more =
     let same : ms ≡ map number_of (texts (take i xs) ++ text_at xs i ∷ []) = more ∙ ap (λ (zs : List ℕ). zs ++ number_of (text_at xs i) ∷ []) so.1 ∙ sym (map_push number_of (texts (take i xs)) (text_at xs i)) in
     subst (λ (ws : List (List ℕ)). Numbers ws ms) (sym grown) (all, same)
 
-pub not_all : (xs : List (Bor (List ℕ))) (i : ℕ) → i < length xs → (Word (text_at xs i) → ⊥) → All Word (texts xs) → ⊥
+pub not_all : (xs : List (Bor (List ℕ))) (i : ℕ) → i < length xs → (Word (text_at xs i) → ⊥) → AllByRecursion Word (texts xs) → ⊥
 not_all xs i h never all = never (subst Word (word_is xs i h) (All-get_or Word (texts xs) i [] (subst (λ (n : ℕ). i < n) (sym (length_texts xs)) h) all))

@@ -1,6 +1,6 @@
 -- Numbers that the words of a line write.
 use Rattle.std.specs.Prelude.{◌≡◌, ℕ, ◌<◌, ◌≤◌, List, map, Result, MatchResult}
-use Rattle.std.specs.List.{AllByRecursion as All}
+use Rattle.std.specs.List.{AllByRecursion}
 use Rattle.fields.specs.Numbers.{Word, number_of}
 use Rattle.job_line.specs.declared.wrong.Wrong.{Wrong}
 use Rattle.job_line.specs.declared.wrong.Wrong.TheVariants.{NotWord, TooManyPlaces, Memory}
@@ -19,9 +19,9 @@ pub data RefusesPlaces (w : List ℕ) : Wrong → Type 0 where
 
 -- each word is a number, and these are the numbers
 abbrev pub Numbers : List (List ℕ) → List ℕ → Type 0
-Numbers ws ns = All Word ws × (ns ≡ map number_of ws)
+Numbers ws ns = AllByRecursion Word ws × (ns ≡ map number_of ws)
 
 -- one of the words is no number; and it says nothing of when memory is wanting
 pub data RefusesNumbers (ws : List (List ℕ)) : Wrong → Type 0 where
-  not_words : (All Word ws → ⊥) → RefusesNumbers ws NotWord
+  not_words : (AllByRecursion Word ws → ⊥) → RefusesNumbers ws NotWord
   no_memory : RefusesNumbers ws Memory

@@ -1,7 +1,7 @@
 -- The words of a line.
 use Rattle.std.specs.Prelude.{◌≡◌, ℕ, ◌-◌, ◌<◌, ◌≤◌, ◌⊎◌, List, map, length, take, slice_index, slice_index_or}
 use Rattle.std.specs.Borrow.{Bor}
-use Rattle.std.specs.List.{AllByRecursion as All}
+use Rattle.std.specs.List.{AllByRecursion}
 use Rattle.fields.specs.declared.span.Span.{Span}
 use Rattle.fields.specs.Blanks.{Blank}
 use Rattle.fields.specs.Spans.{FieldsOf, bytes_of}
@@ -42,12 +42,12 @@ pub record WordsOf (text : List ℕ) (ws : List (List ℕ)) : Type 0 where
 pub record LineWords (line : List ℕ) (ws : List (List ℕ)) : Type 0 where
   pub code : List ℕ
   pub front : CodeOf line code
-  pub plain : All Plain code
+  pub plain : AllByRecursion Plain code
   pub words : WordsOf code ws
 
 -- why a line is not cut into words; it says nothing of when memory is wanting
 pub data RefusesWords (line : List ℕ) : Wrong → Type 0 where
-  bad_byte : (code : List ℕ) → CodeOf line code → (All Plain code → ⊥) → RefusesWords line BadByte
+  bad_byte : (code : List ℕ) → CodeOf line code → (AllByRecursion Plain code → ⊥) → RefusesWords line BadByte
   no_memory : RefusesWords line Memory
 
 -- why so many words are not as many as are wanted

@@ -1,5 +1,5 @@
 use Rattle.std.proofs.Common.{◌≡◌, ℕ, refl, subst, arith}
-use Rattle.std.specs.List.{AllByRecursion as All}
+use Rattle.std.specs.List.{AllByRecursion}
 use Rattle.std.proofs.ByRecursion.{All-get_or, All-more}
 use Rattle.std.proofs.lemmas.List.{take_all}
 use Rattle.cells.specs.declared.cell.Cell.TheVariants.{Unknown}
@@ -19,4 +19,4 @@ loop-cell-preserved c =
 
 pub returns : goal.returns
 returns c =
-    (λ _. subst (All Fit) (take_all c.loop-cell.cell-index c.args.cells.now c.loop-cell-test.false) c.loop-cell.invariant, λ _. refl)
+    (λ _. subst (AllByRecursion Fit) (take_all c.loop-cell.cell-index c.args.cells.now c.loop-cell-test.false) c.loop-cell.invariant, λ _. refl)

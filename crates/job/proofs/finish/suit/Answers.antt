@@ -1,5 +1,5 @@
 use Rattle.std.proofs.Common.{◌≡◌, ℕ, refl, subst, arith}
-use Rattle.std.specs.List.{AllByRecursion as All}
+use Rattle.std.specs.List.{AllByRecursion}
 use Rattle.std.proofs.ByRecursion.{All-more}
 use Rattle.std.proofs.lemmas.List.{take_all}
 use Rattle.job.specs.Finishes.{Suits}
@@ -25,4 +25,4 @@ loop-board-preserved c =
 
 pub returns : goal.returns
 returns c =
-    subst (All (Suits c.args.cells.now)) (take_all c.loop-board.board-index c.args.boards.now c.loop-board-test.false) c.loop-board.invariant
+    subst (AllByRecursion (Suits c.args.cells.now)) (take_all c.loop-board.board-index c.args.boards.now c.loop-board-test.false) c.loop-board.invariant

@@ -1,5 +1,5 @@
 use Rattle.std.proofs.Common.{◌≡◌, ℕ, refl, subst, arith}
-use Rattle.std.specs.List.{AllByRecursion as All}
+use Rattle.std.specs.List.{AllByRecursion}
 use Rattle.std.proofs.ByRecursion.{All-get_or, All-more}
 use Rattle.std.proofs.lemmas.List.{take_all}
 use Rattle.job_line.specs.Words.{Plain}
@@ -18,4 +18,4 @@ loop-b-preserved c =
 
 pub returns : goal.returns
 returns c =
-    (λ _. subst (All Plain) (take_all c.loop-b.b-index c.args.bytes.now c.loop-b-test.false) c.loop-b.invariant, λ _. refl)
+    (λ _. subst (AllByRecursion Plain) (take_all c.loop-b.b-index c.args.bytes.now c.loop-b-test.false) c.loop-b.invariant, λ _. refl)
