@@ -6,7 +6,7 @@ use Rattle.rows.specs.Rows.{row_at}
 use Rattle.semantics.specs.declared.fault.Fault.{Fault}
 use Rattle.semantics.specs.declared.item.Control.TheVariants.{Whole, Finish}
 use Rattle.semantics.specs.Machine.{Configuration, conf, Transition, Refused}
-use Rattle.semantics.specs.Traces.{Fits, Reads-within, HoldsUp, Goes, stay, move, Takes, none, more}
+use Rattle.semantics.specs.Traces.{Fits, ReadsWithin, HoldsUp, Goes, stay, move, Takes, none, more}
 use Rattle.semantics.specs.Cuts.{largest_slice, total}
 use Rattle.runs.specs.declared.end.Stop.TheVariants as stop
 use Rattle.runs.specs.declared.end.End.{End}
@@ -32,7 +32,7 @@ module _ (rows : ℕ → Option Row) where
   roomier : {k h k' h' : ℕ} (s : Configuration) → k ≤ k' → h ≤ h' → Fits k h s → Fits k' h' s
   roomier (conf c r m) kk hh z = omega linear
 
-  reads_roomier : {h h' : ℕ} (s : Configuration) → h ≤ h' → Reads-within h s → Reads-within h' s
+  reads_roomier : {h h' : ℕ} (s : Configuration) → h ≤ h' → ReadsWithin h s → ReadsWithin h' s
   reads_roomier (conf [] r m) hh z = tt
   reads_roomier (conf (Whole p ∷ c) r m) hh z = omega linear
   reads_roomier (conf (Finish p ∷ c) r m) hh z = tt
@@ -51,7 +51,7 @@ module _ (rows : ℕ → Option Row) where
     pub data Final (H : ℕ) : End → ℕ → Configuration → Type 0 where
       finished : {n : ℕ} {t : Configuration} → Empty t → Final H Finished n t
       exhausted : {n : ℕ} {t : Configuration} → ¬ Empty t → n ≡ limit → Final H Limit n t
-      faulted : {n : ℕ} {t : Configuration} {f : Fault} → Refused rows t f → Reads-within H t → n < limit → Final H (Stopped (stop.Fault f)) n t
+      faulted : {n : ℕ} {t : Configuration} {f : Fault} → Refused rows t f → ReadsWithin H t → n < limit → Final H (Stopped (stop.Fault f)) n t
 
     -- a board, begun at s₀, whose run N transitions take to its end e at t: it has ended so, or a transitions have taken it part of the way
     pub data Comes (K H : ℕ) (e : End) (N : ℕ) (s₀ t : Configuration) (a : ℕ) : Board → Type 0 where

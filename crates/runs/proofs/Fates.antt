@@ -7,12 +7,12 @@ use Rattle.semantics.specs.declared.fault.Fault.{Fault}
 use Rattle.semantics.specs.Cells.{Cells}
 use Rattle.semantics.specs.Rules.{Executes, Faults}
 use Rattle.semantics.specs.Machine.{Configuration, conf, cells_of}
-use Rattle.semantics.specs.Traces.{Goes, stay, HoldsUp, Reaches, reaches, Refuses}
+use Rattle.semantics.specs.Traces.{Goes, stay, HoldsUp, Reaches, reaches, RefusesWithin}
 use Rattle.semantics.specs.Agreement.{control_need_at, results_need_at}
 use Rattle.semantics.specs.WholeRuns.{program_over}
 use Rattle.semantics.proofs.Shape.{meets}
 use Rattle.semantics.proofs.Sound.{counted, does}
-use Rattle.semantics.proofs.Fail.{fails}
+use Rattle.semantics.proofs.Fail.{fails_within}
 use Rattle.semantics.proofs.Ways.{ends, faults, pends, ways}
 use Rattle.semantics.proofs.WholeRuns.{program_stands}
 use Rattle.runs.specs.declared.end.Stop.TheVariants as stop
@@ -62,10 +62,10 @@ module _ (table : List ℕ) (m : Cells) (limit : ℕ) where
 
     pub faulting : {f : Fault} {m' : Cells} {n : ℕ} → Faults (row_at table) m (last_row table) f m' n → n < limit → Fate (Stopped (stop.Fault f)) n m'
     faulting {f} {m'} {n} d lt =
-        from (fails (row_at table) (control_need_at table) (results_need_at table) (meets table loaded) d
+        from (fails_within (row_at table) (control_need_at table) (results_need_at table) (meets table loaded) d
         1 (K table) (H table) [] [] (omega linear) (omega linear) (omega linear))
       where
-        from : Reaches (row_at table) 1 (K table) (H table) (Refuses (row_at table) 1 (H table) f m') (program_over table m) n → Fate (Stopped (stop.Fault f)) n m'
+        from : Reaches (row_at table) 1 (K table) (H table) (RefusesWithin (row_at table) 1 (H table) f m') (program_over table m) n → Fate (Stopped (stop.Fault f)) n m'
         from (reaches {t} g z) = record { last = t; trace = g; within = omega linear; final = faulted z.0 z.3 lt; cells = z.1; told = (d, lt) }
 
     pub some_fate : SomeFate

@@ -3,7 +3,7 @@ use Rattle.std.specs.Prelude.{ℕ, Ok, Err, Option, Result}
 use Rattle.rows.specs.declared.row.Row.{Row}
 use Rattle.semantics.specs.declared.fault.Fault.{Fault}
 use Rattle.semantics.specs.Machine.{Configuration, Transition, Refused, NoRuleFits}
-use Rattle.semantics.specs.Traces.{Fits, Reads-within}
+use Rattle.semantics.specs.Traces.{Fits, ReadsWithin}
 use Rattle.runs.specs.declared.end.Stop.{Stop}
 use Rattle.runs.specs.declared.end.Stop.TheVariants as stop
 
@@ -15,5 +15,5 @@ module _ (rows : ℕ → Option Row) (k h : ℕ) where
     made : {t : Configuration} → Transition rows s t → Fits k h t → Tried s (Ok tt) t
     no_rule : NoRuleFits rows s → Tried s (Err stop.Stuck) s
     no_room : {t : Configuration} → Transition rows s t → ¬ Fits k h t → Tried s (Err stop.Stuck) s
-    no_room_to_read : {f : Fault} → Refused rows s f → ¬ Reads-within h s → Tried s (Err stop.Stuck) s
-    refused : {f : Fault} → Refused rows s f → Reads-within h s → Tried s (Err (stop.Fault f)) s
+    no_room_to_read : {f : Fault} → Refused rows s f → ¬ ReadsWithin h s → Tried s (Err stop.Stuck) s
+    refused : {f : Fault} → Refused rows s f → ReadsWithin h s → Tried s (Err (stop.Fault f)) s

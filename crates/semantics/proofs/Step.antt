@@ -78,7 +78,7 @@ abbrev turned : Bool → ℕ → ℕ → List Control → List Item → Cells �
 turned true x p c r m = goes (conf (Whole x ∷ Whole p ∷ c) r m)
 turned false x p c r m = goes (conf c r m)
 
-abbrev opened : Option Row → ℕ → List Control → List Item → Cells → Move
+abbrev pub opened : Option Row → ℕ → List Control → List Item → Cells → Move
 opened None p c r m = stuck
 opened (Some (row.Number a)) p c r m = goes (conf c (item.Number a ∷ r) m)
 opened (Some (row.Contents l)) p c r m = given (read m l) p c r m
@@ -93,7 +93,7 @@ opened (Some (row.Sequence x y)) p c r m = goes (conf (Whole x ∷ Whole y ∷ c
 opened (Some (row.Choice b x y)) p c r m = goes (conf (Whole b ∷ Finish p ∷ c) (item.Row x ∷ item.Row y ∷ r) m)
 opened (Some (row.Loop b x)) p c r m = goes (conf (Whole b ∷ Finish p ∷ c) (item.Row b ∷ item.Row x ∷ r) m)
 
-abbrev closed : Option Row → ℕ → List Control → List Item → Cells → Move
+abbrev pub closed : Option Row → ℕ → List Control → List Item → Cells → Move
 closed None p c r m = stuck
 closed (Some (row.Number a)) p c r m = stuck
 closed (Some (row.Contents l)) p c r m = stuck
@@ -114,10 +114,10 @@ module _ (rows : ℕ → Option Row) where
   step (conf (Whole p ∷ c) r m) = opened (rows p) p c r m
   step (conf (Finish p ∷ c) r m) = closed (rows p) p c r m
 
-  opens : {p : ℕ} {w : Row} → rows p ≡ Some w → (c : List Control) (r : List Item) (m : Cells) → step (conf (Whole p ∷ c) r m) ≡ opened (Some w) p c r m
+  pub opens : {p : ℕ} {w : Row} → rows p ≡ Some w → (c : List Control) (r : List Item) (m : Cells) → step (conf (Whole p ∷ c) r m) ≡ opened (Some w) p c r m
   opens {p} e c r m = ap (λ w. opened w p c r m) e
 
-  closes : {p : ℕ} {w : Row} → rows p ≡ Some w → (c : List Control) (r : List Item) (m : Cells) → step (conf (Finish p ∷ c) r m) ≡ closed (Some w) p c r m
+  pub closes : {p : ℕ} {w : Row} → rows p ≡ Some w → (c : List Control) (r : List Item) (m : Cells) → step (conf (Finish p ∷ c) r m) ≡ closed (Some w) p c r m
   closes {p} e c r m = ap (λ w. closed w p c r m) e
 
   is_same : (x : ℕ) (w : Move) → same x x w ≡ w

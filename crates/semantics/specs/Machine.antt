@@ -29,6 +29,10 @@ results_of (conf c r m) = r
 abbrev pub cells_of : Configuration → Cells
 cells_of (conf c r m) = m
 
+-- what the choice or the loop of row p lays on the results r while its condition is worked out: the two rows that wait
+abbrev pub waiting : ℕ → ℕ → ℕ → List Item → List Item
+waiting p x y r = item.Row x ∷ item.Row y ∷ r
+
 module _ (rows : ℕ → Option Row) where
   pub data Transition : Configuration → Configuration → Type 0 where
     -- a leaf's value goes to the results
