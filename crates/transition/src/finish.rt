@@ -136,8 +136,8 @@ fn assign<S: Store>(
     store: &mut S,
 ) -> Result<(), Stop>
     requires { 1 ≤ length (contents control.old) }
-    ensures did { Did (assignment_of p location (cells store.old) (stacks control.old results.old)) (room control.old results.old) (room control.new results.new) (configuration control.old results.old (cells store.old)) (configuration control.new results.new (cells store.new)) result }
-    ensures keeps { rests store.new ≡ rests store.old }
+    ensures did { Did (assignment_of p location (S.cells store.old) (stacks control.old results.old)) (room control.old results.old) (room control.new results.new) (configuration control.old results.old (S.cells store.old)) (configuration control.new results.new (S.cells store.new)) result }
+    ensures keeps { S.rests store.new ≡ S.rests store.old }
 {
     match number_for(location, results.view()) {
         Some(n) => match (*store).put(location, n) {
@@ -164,8 +164,8 @@ pub fn finish<S: Store>(
     store: &mut S,
 ) -> Result<(), Stop>
     requires { 1 ≤ length (contents control.old) }
-    ensures did { Did (finish_all_of (room control.old results.old) p (cells store.old) row (stacks control.old results.old)) (room control.old results.old) (room control.new results.new) (configuration control.old results.old (cells store.old)) (configuration control.new results.new (cells store.new)) result }
-    ensures keeps { rests store.new ≡ rests store.old }
+    ensures did { Did (finish_all_of (room control.old results.old) p (S.cells store.old) row (stacks control.old results.old)) (room control.old results.old) (room control.new results.new) (configuration control.old results.old (S.cells store.old)) (configuration control.new results.new (S.cells store.new)) result }
+    ensures keeps { S.rests store.new ≡ S.rests store.old }
 {
     match target(row) {
         Some(location) => assign(p, location, control, results, store),

@@ -23,8 +23,8 @@ fn attempt<S: Store>(
     results: &mut Stack<'_, Item>,
     store: &mut S,
 ) -> Result<(), Stop>
-    ensures did { Did (step_of (room control.old results.old) (row_at (table_of program.now)) (cells store.old) (stacks control.old results.old)) (room control.old results.old) (room control.new results.new) (configuration control.old results.old (cells store.old)) (configuration control.new results.new (cells store.new)) result }
-    ensures keeps { rests store.new ≡ rests store.old }
+    ensures did { Did (step_of (room control.old results.old) (row_at (table_of program.now)) (S.cells store.old) (stacks control.old results.old)) (room control.old results.old) (room control.new results.new) (configuration control.old results.old (S.cells store.old)) (configuration control.new results.new (S.cells store.new)) result }
+    ensures keeps { S.rests store.new ≡ S.rests store.old }
 {
     match control.top() {
         None => Err(Stop::Stuck),
@@ -46,10 +46,10 @@ pub fn step<S: Store>(
     results: &mut Stack<'_, Item>,
     store: &mut S,
 ) -> Result<(), Stop>
-    ensures tries { Tried (row_at (table_of program.now)) (places control.old) (places results.old) (configuration control.old results.old (cells store.old)) result (configuration control.new results.new (cells store.new)) }
-    ensures simp { result ≡ Ok tt → AsSimp (table_of program.now) (configuration control.old results.old (cells store.old)) 1 (configuration control.new results.new (cells store.new)) }
+    ensures tries { Tried (row_at (table_of program.now)) (places control.old) (places results.old) (configuration control.old results.old (S.cells store.old)) result (configuration control.new results.new (S.cells store.new)) }
+    ensures simp { result ≡ Ok tt → AsSimp (table_of program.now) (configuration control.old results.old (S.cells store.old)) 1 (configuration control.new results.new (S.cells store.new)) }
     ensures places { room control.new results.new ≡ room control.old results.old }
-    ensures keeps { rests store.new ≡ rests store.old }
+    ensures keeps { S.rests store.new ≡ S.rests store.old }
 {
     attempt(program, control, results, store)
 }

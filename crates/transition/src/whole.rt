@@ -17,7 +17,7 @@ fn read<S: Store>(
     results: &mut Stack<'_, Item>,
     store: &S,
 ) -> Result<(), Stop>
-    ensures { Moved (λ k. read_of k (cells store.now) p location) control.old results.old control.new results.new result }
+    ensures { Moved (λ k. read_of k (S.cells store.now) p location) control.old results.old control.new results.new result }
 {
     if !results.fits(0, 1) {
         return Err(Stop::Stuck);
@@ -39,7 +39,7 @@ pub fn whole<S: Store>(
     results: &mut Stack<'_, Item>,
     store: &S,
 ) -> Result<(), Stop>
-    ensures { Moved (λ k. whole_of k (cells store.now) p row) control.old results.old control.new results.new result }
+    ensures { Moved (λ k. whole_of k (S.cells store.now) p row) control.old results.old control.new results.new result }
 {
     match row {
         Row::Number(n) => exchange(control, &[], results, 0, &[Item::Number(n)]),
