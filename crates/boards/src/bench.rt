@@ -64,7 +64,7 @@ fn run_one<S: Store>(
     store: &mut S,
     scratch: &mut Scratch,
 ) -> Told
-    ensures { rests store.new ≡ rests store.old }
+    ensures { S.rests store.new ≡ S.rests store.old }
 {
     let mut control = Stack::new(scratch.control.as_mut_slice());
     let mut results = Stack::new(scratch.results.as_mut_slice());
@@ -160,7 +160,7 @@ fn with_second<A: Store>(
     memory: &mut CellMemory,
     scratch2: &mut Scratch,
 ) -> (Told, Told)
-    ensures { rests first.new ≡ rests first.old }
+    ensures { A.rests first.new ≡ A.rests first.old }
 {
     match make {
         Make::Sheet => {

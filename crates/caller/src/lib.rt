@@ -23,7 +23,7 @@ pub fn two_frames<S: Store>(
     store: &mut S,
     slice: u32,
 ) -> Result<Progress, TurnedDown>
-    ensures { Frames (table_of program.now) (places control.old) (places results.old) running.limit slice running.count (configuration control.old results.old (cells store.old)) (board_after result (configuration control.new results.new (cells store.new))) }
+    ensures { Frames (table_of program.now) (places control.old) (places results.old) running.limit slice running.count (configuration control.old results.old (S.cells store.old)) (board_after result (configuration control.new results.new (S.cells store.new))) }
 {
     match go_on(running, program, control, results, store, slice) {
         Err(down) => Err(down),

@@ -29,10 +29,10 @@ fn take_turn<S: Store>(
     results: &mut Stack<'_, Item>,
     store: &mut S,
 ) -> Progress
-    ensures takes { TakesTurn (table_of program.now) (places control.old) (places results.old) (limit_of 0 progress) (board_of progress (configuration control.old results.old (cells store.old))) turn.old turn.new (board_of result (configuration control.new results.new (cells store.new))) }
+    ensures takes { TakesTurn (table_of program.now) (places control.old) (places results.old) (limit_of 0 progress) (board_of progress (configuration control.old results.old (S.cells store.old))) turn.old turn.new (board_of result (configuration control.new results.new (S.cells store.new))) }
     ensures limit { limit_of (limit_of 0 progress) result ≡ limit_of 0 progress }
     ensures places { room control.new results.new ≡ room control.old results.old }
-    ensures keeps { rests store.new ≡ rests store.old }
+    ensures keeps { S.rests store.new ≡ S.rests store.old }
 {
     match progress {
         Progress::Ended(ended) => {
@@ -67,10 +67,10 @@ fn take_turns<S: Store>(
     results: &mut Stack<'_, Item>,
     store: &mut S,
 ) -> Progress
-    ensures takes { TakesTurns (table_of program.now) (places control.old) (places results.old) running.limit (board_of (Progress.Running running) (configuration control.old results.old (cells store.old))) turns.old turns.new (board_of result (configuration control.new results.new (cells store.new))) }
+    ensures takes { TakesTurns (table_of program.now) (places control.old) (places results.old) running.limit (board_of (Progress.Running running) (configuration control.old results.old (S.cells store.old))) turns.old turns.new (board_of result (configuration control.new results.new (S.cells store.new))) }
     ensures limit { limit_of running.limit result ≡ running.limit }
     ensures places { room control.new results.new ≡ room control.old results.old }
-    ensures keeps { rests store.new ≡ rests store.old }
+    ensures keeps { S.rests store.new ≡ S.rests store.old }
 {
     let mut progress = Progress::Running(running);
     for turn in turns.iter_mut() {
@@ -98,9 +98,9 @@ fn carry_out<S: Store>(
     limit: u32,
     turns: &mut [Turn],
 ) -> Fate
-    ensures calls { Calls (table_of program.now) (places control.old) (places results.old) limit (configuration control.old results.old (cells store.old)) turns.old result turns.new (configuration control.new results.new (cells store.new)) }
+    ensures calls { Calls (table_of program.now) (places control.old) (places results.old) limit (configuration control.old results.old (S.cells store.old)) turns.old result turns.new (configuration control.new results.new (S.cells store.new)) }
     ensures places { room control.new results.new ≡ room control.old results.old }
-    ensures keeps { rests store.new ≡ rests store.old }
+    ensures keeps { S.rests store.new ≡ S.rests store.old }
 {
     match begin(program, control, results, &*store, limit) {
         Err(no) => {
@@ -126,11 +126,11 @@ pub fn follow<S: Store>(
     limit: u32,
     turns: &mut [Turn],
 ) -> Fate
-    ensures follows { Follows (table_of program.now) (places control.old) (places results.old) limit (configuration control.old results.old (cells store.old)) turns.old result turns.new (configuration control.new results.new (cells store.new)) }
+    ensures follows { Follows (table_of program.now) (places control.old) (places results.old) limit (configuration control.old results.old (S.cells store.old)) turns.old result turns.new (configuration control.new results.new (S.cells store.new)) }
     ensures places { room control.new results.new ≡ room control.old results.old }
-    ensures keeps { rests store.new ≡ rests store.old }
-    ensures history { IfBegun result (configuration control.new results.new (cells store.new)) (History (table_of program.now) (places control.old) (places results.old) limit (cells store.old) (used turns.new)) }
-    ensures kept { IfBegun result (configuration control.new results.new (cells store.new)) (Kept (table_of program.now) (cells store.old) limit (used turns.new)) }
+    ensures keeps { S.rests store.new ≡ S.rests store.old }
+    ensures history { IfBegun result (configuration control.new results.new (S.cells store.new)) (History (table_of program.now) (places control.old) (places results.old) limit (S.cells store.old) (used turns.new)) }
+    ensures kept { IfBegun result (configuration control.new results.new (S.cells store.new)) (Kept (table_of program.now) (S.cells store.old) limit (used turns.new)) }
 {
     carry_out(program, control, results, store, limit, turns)
 }

@@ -23,8 +23,8 @@ fn whole_run<S: Store>(
     store: &mut S,
     limit: u32,
 ) -> Option<Ended>
-    ensures tells { Tells (table_of program.now) (places control.old) (places results.old) limit (cells store.old) (cells store.new) result }
-    ensures keeps { rests store.new ≡ rests store.old }
+    ensures tells { Tells (table_of program.now) (places control.old) (places results.old) limit (S.cells store.old) (S.cells store.new) result }
+    ensures keeps { S.rests store.new ≡ S.rests store.old }
 {
     let Ok(running) = begin(program, control, results, store, limit) else {
         return None;
@@ -54,9 +54,9 @@ pub fn outcome<S: Store>(
     control: &mut [Control],
     results: &mut [Item],
 ) -> Option<Ended>
-    ensures comes { ComesTo words.now (length control.old) (length results.old) limit (cells store.old) (cells store.new) result }
-    ensures claimed { (c : Case) → Worked c → Poses c words.now (length control.old) (length results.old) limit (cells store.old) → ClaimedAnswer c (cells store.new) result }
-    ensures keeps { rests store.new ≡ rests store.old }
+    ensures comes { ComesTo words.now (length control.old) (length results.old) limit (S.cells store.old) (S.cells store.new) result }
+    ensures claimed { (c : Case) → Worked c → Poses c words.now (length control.old) (length results.old) limit (S.cells store.old) → ClaimedAnswer c (S.cells store.new) result }
+    ensures keeps { S.rests store.new ≡ S.rests store.old }
 {
     let mut program = Program::new();
     let Ok(needs) = program.load(words) else {

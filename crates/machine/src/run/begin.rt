@@ -45,7 +45,7 @@ pub fn begin<S: Store>(
     store: &S,
     limit: u32,
 ) -> Result<Running, BeginRefusal>
-    ensures begins { Begins (table_of program.now) (places control.old) (places results.old) limit (configuration control.old results.old (cells store.now)) result (configuration control.new results.new (cells store.now)) }
+    ensures begins { Begins (table_of program.now) (places control.old) (places results.old) limit (configuration control.old results.old (S.cells store.now)) result (configuration control.new results.new (S.cells store.now)) }
     ensures places { room control.new results.new ≡ room control.old results.old }
 {
     match refusal(program, control.places(), results.places(), limit) {

@@ -38,10 +38,10 @@ fn serve<S: Store>(
     store: &mut S,
     slice: u32,
 ) -> Progress
-    ensures serves { Serves (row_at (table_of program.now)) (places control.old) (places results.old) running.limit slice running.count (configuration control.old results.old (cells store.old)) (board_of result (configuration control.new results.new (cells store.new))) }
+    ensures serves { Serves (row_at (table_of program.now)) (places control.old) (places results.old) running.limit slice running.count (configuration control.old results.old (S.cells store.old)) (board_of result (configuration control.new results.new (S.cells store.new))) }
     ensures limit { limit_of running.limit result ≡ running.limit }
     ensures places { room control.new results.new ≡ room control.old results.old }
-    ensures keeps { rests store.new ≡ rests store.old }
+    ensures keeps { S.rests store.new ≡ S.rests store.old }
 {
     let Running { count, limit } = running;
     let mut made = count;
@@ -86,12 +86,12 @@ pub fn go_on<S: Store>(
     store: &mut S,
     slice: u32,
 ) -> Result<Progress, TurnedDown>
-    ensures goes { Goes_on (row_at (table_of program.now)) (places control.old) (places results.old) running.limit slice running.count (configuration control.old results.old (cells store.old)) (board_after result (configuration control.new results.new (cells store.new))) }
+    ensures goes { Goes_on (row_at (table_of program.now)) (places control.old) (places results.old) running.limit slice running.count (configuration control.old results.old (S.cells store.old)) (board_after result (configuration control.new results.new (S.cells store.new))) }
     ensures answers { Answered running slice result }
     ensures places { room control.new results.new ≡ room control.old results.old }
-    ensures keeps { rests store.new ≡ rests store.old }
-    ensures agrees { AgreesOnward (table_of program.now) (places control.old) (places results.old) running.limit slice running.count (configuration control.old results.old (cells store.old)) (board_after result (configuration control.new results.new (cells store.new))) }
-    ensures simp { SimpOnward (table_of program.now) running.count (configuration control.old results.old (cells store.old)) (board_after result (configuration control.new results.new (cells store.new))) }
+    ensures keeps { S.rests store.new ≡ S.rests store.old }
+    ensures agrees { AgreesOnward (table_of program.now) (places control.old) (places results.old) running.limit slice running.count (configuration control.old results.old (S.cells store.old)) (board_after result (configuration control.new results.new (S.cells store.new))) }
+    ensures simp { SimpOnward (table_of program.now) running.count (configuration control.old results.old (S.cells store.old)) (board_after result (configuration control.new results.new (S.cells store.new))) }
 {
     if slice > LARGEST_SLICE {
         return Err(TurnedDown { running });

@@ -20,10 +20,10 @@ returns-in-None g c =
     let asked = ap₂ (λ k h. first_no table k h c.args.limit) c.places.ensures c.places-2.ensures in
     let e = c.in-None.ensures ∙ asked in
     let one : 1 ≤ k = omega (arith, place_for_one table (held c.args.program.now), (admitted table k h c.args.limit e).control) in
-    let top = ap (λ p. Whole p) (last table c.last-row.result c.last-row.ensures) in
+    let top = ap (λ p. Whole p) (last table c.last_row.result c.last_row.ensures) in
     record {
       begins = starts table k h c.args.limit _ _ _ _ (g.S.Store.cells c.args.store.now) e
-          (alone _ _ (Whole c.last-row.result) k _ _ one c.clear.ensures.contents c.clear.ensures.places c.push.ensures.answers c.push.ensures.contents
+          (alone _ _ (Whole c.last_row.result) k _ _ one c.clear.ensures.contents c.clear.ensures.places c.push.ensures.answers c.push.ensures.contents
           ∙ ap (λ i. i ∷ []) top)
           c.clear-in-None.ensures.contents;
       places = room_kept _ _ _ _ (c.push.ensures.places ∙ c.clear.ensures.places) c.clear-in-None.ensures.places;

@@ -6,13 +6,13 @@ use Rattle.runs.specs.Slices.{turned_down, served}
 use Rattle.runs.proofs.Onward.{agrees_onward, simp_onward}
 use Rattle.machine.proofs.run.go_on.go_on.Goals as goal
 
-pub returns-then-slice-gt-LARGEST-SLICE : goal.returns-then-slice-gt-LARGEST-SLICE
-returns-then-slice-gt-LARGEST-SLICE g c =
+pub returns-then-slice-gt-LARGEST_SLICE : goal.returns-then-slice-gt-LARGEST_SLICE
+returns-then-slice-gt-LARGEST_SLICE g c =
     let program = c.args.program.now in
-    let goes = turned_down c.if-slice-gt-LARGEST-SLICE.true in
+    let goes = turned_down c.if-slice-gt-LARGEST_SLICE.true in
     record {
       goes = goes;
-      answers = (c.if-slice-gt-LARGEST-SLICE.true, refl);
+      answers = (c.if-slice-gt-LARGEST_SLICE.true, refl);
       places = refl;
       keeps = refl;
       agrees = agrees_onward (table_of program) (held program) _ _ _ _ _ _ _ goes;
@@ -22,10 +22,10 @@ returns-then-slice-gt-LARGEST-SLICE g c =
 pub returns : goal.returns
 returns g c =
     let program = c.args.program.now in
-    let goes = served c.if-slice-gt-LARGEST-SLICE.false c.serve.ensures.serves in
+    let goes = served c.if-slice-gt-LARGEST_SLICE.false c.serve.ensures.serves in
     record {
       goes = goes;
-      answers = (c.if-slice-gt-LARGEST-SLICE.false, c.serve.ensures.limit);
+      answers = (c.if-slice-gt-LARGEST_SLICE.false, c.serve.ensures.limit);
       places = c.serve.ensures.places;
       keeps = c.serve.ensures.keeps;
       agrees = agrees_onward (table_of program) (held program) _ _ _ _ _ _ _ goes;
