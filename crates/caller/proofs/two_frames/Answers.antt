@@ -16,5 +16,5 @@ returns-in-Ended g c =
 pub returns-in-Running : goal.returns-in-Running
 returns-in-Running g c =
     goes_second (table_of c.args.program.now) (room c.args.control.now c.args.results.now) _ c.args.slice _ _ _ c.in-Ok.progress
-    c.in-Ok.ensures.goes c.in-Running.next _ _ c.in-Running.is c.go-on.ensures.places c.in-Ok.ensures.answers.1
-    c.go-on-in-Running.ensures.goes
+    c.in-Ok.ensures.goes c.in-Running.next _ _ c.in-Running.is c.go_on.ensures.places c.in-Ok.ensures.answers.1
+    c.go_on-in-Running.ensures.goes

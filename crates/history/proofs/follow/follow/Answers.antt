@@ -6,8 +6,8 @@ use Rattle.history.proofs.follow.follow.Goals as goal
 pub returns : goal.returns
 returns g c =
     let program = c.args.program.now in
-    let done = c.carry-out.ensures in
-    let fate = c.carry-out.result in
+    let done = c.carry_out.ensures in
+    let fate = c.carry_out.result in
     let follows = following _ _ _ _ fate done.calls in
     let went = history _ _ _ _ follows in
     record {

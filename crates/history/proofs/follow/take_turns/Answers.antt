@@ -15,14 +15,14 @@ loop-turn-preserved g c =
     let cells = g.S.Store.cells in
     let limit = c.args.running.limit in
     let p = c.loop-turn.progress in
-    let q = c.take-turn-progress.result in
+    let q = c.take_turn-progress.result in
     let s = configuration c.loop-turn.control c.loop-turn.results (cells c.loop-turn.store) in
-    let last = c.take-turn-progress.new in
+    let last = c.take_turn-progress.new in
     let s' = configuration last.control last.results (cells last.store) in
     let turns = c.loop-turn.turns in
     let i = c.loop-turn.turn-index in
     let idle : Turn = record { slice = 0; seen = Unused } in
-    let turn = c.take-turn-progress.ensures in
+    let turn = c.take_turn-progress.ensures in
     let inv = c.loop-turn.invariant in
     let lt : i < length turns = omega (arith, c.loop-turn.auto.turns, c.loop-turn-test.true) in (
       turn.places ∙ inv.0,

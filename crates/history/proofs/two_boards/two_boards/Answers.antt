@@ -6,8 +6,8 @@ use Rattle.history.proofs.two_boards.two_boards.Goals as goal
 pub returns : goal.returns
 returns g c =
     let program = c.args.program.now in
-    let both = c.follow-both.ensures in
-    let fates = c.follow-both.result in
+    let both = c.follow_both.ensures in
+    let fates = c.follow_both.result in
     record {
       first = both.first;
       second = both.second;

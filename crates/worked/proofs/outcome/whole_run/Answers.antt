@@ -7,17 +7,17 @@ use Rattle.machine.specs.declared.run.Progress.TheVariants.{Running, Ended}
 use Rattle.worked.proofs.WholeRuns.{served, not_admitted}
 use Rattle.worked.proofs.outcome.whole_run.Goals as goal
 
-pub returns-in-default : goal.returns-in-default
-returns-in-default g c =
+pub returns-in_default : goal.returns-in_default
+returns-in_default g c =
     let k = places c.args.control.now in
     let h = places c.args.results.now in
-    record { tells = λ a. absurd (not_admitted (table_of c.args.program.now) k h c.args.limit c.in-default.ensures.begins a); keeps = refl }
+    record { tells = λ a. absurd (not_admitted (table_of c.args.program.now) k h c.args.limit c.in_default.ensures.begins a); keeps = refl }
 
 pub returns-in-Ok-Ended : goal.returns-in-Ok-Ended
 returns-in-Ok-Ended g c =
     let table = table_of c.args.program.now in
     let before = configuration c.args.control.now c.args.results.now (g.S.Store.cells c.args.store.now) in
-    let after = configuration c.go-on.new.control c.go-on.new.results (g.S.Store.cells c.go-on.new.store) in
+    let after = configuration c.go_on.new.control c.go_on.new.results (g.S.Store.cells c.go_on.new.store) in
     let k = room c.args.control.now c.args.results.now in
     let k' = room c.begin.new.control c.begin.new.results in
     let run =
@@ -29,7 +29,7 @@ pub returns-in-Ok-Running : goal.returns-in-Ok-Running
 returns-in-Ok-Running g c =
     let table = table_of c.args.program.now in
     let before = configuration c.args.control.now c.args.results.now (g.S.Store.cells c.args.store.now) in
-    let after = configuration c.go-on.new.control c.go-on.new.results (g.S.Store.cells c.go-on.new.store) in
+    let after = configuration c.go_on.new.control c.go_on.new.results (g.S.Store.cells c.go_on.new.store) in
     let k = room c.args.control.now c.args.results.now in
     let k' = room c.begin.new.control c.begin.new.results in
     let run =

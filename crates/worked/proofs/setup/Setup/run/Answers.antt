@@ -9,5 +9,5 @@ pub returns : goal.returns
 returns c k worked sets fits =
     let m = sheet_cells c.new-sheet.result.records.now in
     let same : (l : ℕ) → m l ≡ cells_with (held c.args.self.start.now) l =
-    λ l. ap (λ rs. sheet_cells rs l) c.new-sheet.ensures.holds ∙ c.records-with-records.ensures l in
+    λ l. ap (λ rs. sheet_cells rs l) c.new-sheet.ensures.holds ∙ c.records_with-records.ensures l in
     (sheet_cells c.outcome.new.store.records.now, c.outcome.ensures.claimed k worked (posed k c.args.self m sets same fits))
