@@ -9,6 +9,7 @@ use crate::verdict::verdict_on;
 use job::job::Job;
 use job::read::read;
 use std::io::Read;
+use std::process::ExitCode;
 use table::program::Program;
 
 mod arguments;
@@ -30,18 +31,17 @@ MAKE is sheet, cover:FIRST:LAST, neighbours:SPLIT or pairs.
 A line that is none of these is told on standard error with its number, and the status is 1.";
 
 // What goes wrong is told here, once, and the status is then 1.
-fn main(rt: HostRuntime) -> Result<(), Trouble> {
-    let ending = run(&rt);
-    match &ending {
+fn main(rt: HostRuntime) -> ExitCode {
+    match run(&rt) {
+        Ok(()) => return ExitCode::SUCCESS,
         Err(Trouble::BadLine(bad)) => {
             let _ = eprintln!(rt; "{bad}");
         }
         Err(trouble) => {
             let _ = eprintln!(rt; "boards: {trouble}");
         }
-        Ok(()) => {}
     }
-    ending
+    ExitCode::FAILURE
 }
 
 fn run(rt: &HostRuntime) -> Result<(), Trouble> {
