@@ -7,7 +7,6 @@ use Rattle.cells.specs.declared.cell.Cell.{Cell}
 use Rattle.cells.specs.declared.cell.Cell.TheVariants.{Unknown, Known}
 use Rattle.job_line.specs.declared.board_line.BoardLine.{BoardLine}
 use Rattle.job_line.specs.declared.line.JobLine.{JobLine}
-use Rattle.job_line.specs.declared.line.JobLine.TheVariants as JobLine
 use Rattle.job_line.specs.declared.line.Keyword.{Keyword}
 use Rattle.job_line.specs.CellLines.{Lawful}
 use Rattle.job_line.specs.Lines.{SaysAfter, Says}

@@ -5,7 +5,6 @@ use Rattle.cells.specs.declared.cell.Cell.{Cell}
 use Rattle.cells.specs.declared.cell.Cell.TheVariants.{Unknown, Known}
 use Rattle.job_line.specs.declared.board_line.BoardLine.{BoardLine}
 use Rattle.job_line.specs.declared.line.JobLine.{JobLine}
-use Rattle.job_line.specs.declared.line.JobLine.TheVariants as JobLine
 use Rattle.job_line.specs.declared.wrong.Wrong.{Wrong}
 use Rattle.job_line.specs.declared.wrong.Wrong.TheVariants.{SecondLimit, SecondCell, Memory}
 use Rattle.job_line.specs.Lines.{SaysLine, RefusesLine}

@@ -1,7 +1,6 @@
 -- The first word of a line and the words after it.
 use Rattle.std.proofs.Common.{◌≡◌, ℕ, List, [], ◌∷◌, length, sym, ap, subst, arith, Bor}
 use Rattle.job_line.specs.declared.line.JobLine.{JobLine}
-use Rattle.job_line.specs.declared.line.JobLine.TheVariants as JobLine
 use Rattle.job_line.specs.declared.line.Keyword.{Keyword}
 use Rattle.job_line.specs.declared.wrong.Wrong.{Wrong}
 use Rattle.job_line.specs.Lines.{keyword_of, Unheaded, SaysAfter, RefusesAfter, Says, Refuses}

@@ -1,9 +1,7 @@
 -- Makes and their names.
 use Rattle.std.proofs.Common.{◌≡◌, ℕ, List, ◌∷◌, ◌++◌, get_or, codes, sym, refl, ap, subst, inl, inr, arith}
 use Rattle.job_line.specs.declared.make.Kind.{Kind}
-use Rattle.job_line.specs.declared.make.Kind.TheVariants as Kind
 use Rattle.job_line.specs.declared.make.Make.{Make}
-use Rattle.job_line.specs.declared.make.Make.TheVariants as Make
 use Rattle.job_line.specs.declared.wrong.Wrong.{Wrong}
 use Rattle.job_line.specs.declared.wrong.Wrong.TheVariants.{BadParameters}
 use Rattle.job_line.specs.Makes.{FromTo, name_of, Writes, Unnamed, Unmade, RefusesMake}

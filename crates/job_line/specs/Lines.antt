@@ -2,9 +2,7 @@
 use Rattle.std.specs.Prelude.{◌≡◌, ℕ, List, [], ◌∷◌, length, vec_items, codes, ◌≢◌}
 use Rattle.fields.specs.Numbers.{Word, number_of}
 use Rattle.job_line.specs.declared.line.JobLine.{JobLine}
-use Rattle.job_line.specs.declared.line.JobLine.TheVariants as JobLine
 use Rattle.job_line.specs.declared.line.Keyword.{Keyword}
-use Rattle.job_line.specs.declared.line.Keyword.TheVariants as Keyword
 use Rattle.job_line.specs.declared.wrong.Wrong.{Wrong}
 use Rattle.job_line.specs.declared.wrong.Wrong.TheVariants.{UnknownWord, NotWord}
 use Rattle.job_line.specs.BoardLines.{SaysBoard, RefusesBoard}

@@ -3,9 +3,7 @@ use Rattle.std.specs.Prelude.{◌≡◌, ℕ, ◌<◌, ◌⊎◌, List, ◌∷�
 use Rattle.fields.specs.Numbers.{Word, number_of}
 use Rattle.job_line.specs.Splits.{Lacks, Parted}
 use Rattle.job_line.specs.declared.make.Kind.{Kind}
-use Rattle.job_line.specs.declared.make.Kind.TheVariants as Kind
 use Rattle.job_line.specs.declared.make.Make.{Make}
-use Rattle.job_line.specs.declared.make.Make.TheVariants as Make
 use Rattle.job_line.specs.declared.wrong.Wrong.{Wrong}
 use Rattle.job_line.specs.declared.wrong.Wrong.TheVariants.{UnknownMake, BadParameters}
 

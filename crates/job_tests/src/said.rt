@@ -22,7 +22,7 @@ fn parts(rt: HostRuntime) -> Result<(), Fail> {
         return Err(Fail::new("refused"));
     };
     assert_eq!(rt; job.limit, 1_000_000);
-    assert!(rt; job.table.as_slice() == &[0, 1, 0, 0, 8, 2, 0, 0, 4_294_967_295]);
+    assert!(rt; job.table.as_slice() == [0, 1, 0, 0, 8, 2, 0, 0, 4_294_967_295].as_slice());
     assert_eq!(rt; job.cells[0], Cell::Unknown);
     assert_eq!(rt;
         job.cells[255],
@@ -50,7 +50,7 @@ fn boards(rt: HostRuntime) -> Result<(), Fail> {
     assert_eq!(rt; first.make, Make::Sheet);
     assert_eq!(rt; first.control, 6);
     assert_eq!(rt; first.results, 4);
-    assert!(rt; first.slices.as_slice() == &[3, 0, 7]);
+    assert!(rt; first.slices.as_slice() == [3, 0, 7].as_slice());
     assert_eq!(rt; job.boards[1].make, Make::Cover(10, 20));
     assert_eq!(rt; job.boards[1].results, 1_000_000);
     assert_eq!(rt; job.boards[2].make, Make::Neighbours(64));

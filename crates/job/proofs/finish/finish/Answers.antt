@@ -6,18 +6,18 @@ use Rattle.job.specs.Finishes.{Unsuited}
 use Rattle.job.specs.Finishes.Unfinished.{unsuited, no_limit, no_board}
 use Rattle.job.proofs.finish.finish.Goals as goal
 
-pub returns-in-err-suit : goal.returns-in-err-suit
-returns-in-err-suit c =
-    let left = err_from_is_err_and c.from-residual.result c.from-residual.ensures.1 in
+pub returns-in_err-suit : goal.returns-in_err-suit
+returns-in_err-suit c =
+    let left = err_from_is_err_and c.from_residual.result c.from_residual.ensures.1 in
     rw (left.1, left.2) (
     unsuited
-    (subst (λ (bs : List BoardLine). Unsuited c.args.draft.cells bs c.in-err-suit.field-0.0) c.as-slice.ensures.value c.in-err-suit.ensures)
+    (subst (λ (bs : List BoardLine). Unsuited c.args.draft.cells bs c.in_err-suit.field-0.0) c.as_slice.ensures.value c.in_err-suit.ensures)
     )
 
-pub returns-in-default : goal.returns-in-default
-returns-in-default c = rw c.max-line.ensures (no_limit c.in-default.is)
+pub returns-in_default : goal.returns-in_default
+returns-in_default c = rw c.max-line.ensures (no_limit c.in_default.is)
 
-pub returns-then-is-empty : goal.returns-then-is-empty
-returns-then-is-empty c =
+pub returns-then-is_empty : goal.returns-then-is_empty
+returns-then-is_empty c =
     let none : length (vec_items c.args.draft.boards) ≡ 0 = search rules in
     rw c.max-line.ensures (no_board (nil_from_length (vec_items c.args.draft.boards) none))

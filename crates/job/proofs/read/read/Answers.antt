@@ -13,25 +13,25 @@ pub returns-in-Err : goal.returns-in-Err
 returns-in-Err c =
     let some : 0 < length c.loop-rest.rest.now = search rules in
     record {
-      told = breaks (c.loop-rest.invariant.2 _ (here c.first-line.result.0.now c.first-line.result.1.now some c.first-line.ensures c.in-Err.ensures));
+      told = breaks (c.loop-rest.invariant.2 _ (here c.first_line.result.0.now c.first_line.result.1.now some c.first_line.ensures c.in-Err.ensures));
       sound = tt;
     }
 
 pub loop-rest-smaller : goal.loop-rest-smaller
 loop-rest-smaller c =
     let some : 0 < length c.loop-rest.rest.now = search rules in
-    shorter c.loop-rest.rest.now c.first-line.result.0.now c.first-line.result.1.now some c.first-line.ensures
+    shorter c.loop-rest.rest.now c.first_line.result.0.now c.first_line.result.1.now some c.first_line.ensures
 
 pub loop-rest-preserved : goal.loop-rest-preserved
 loop-rest-preserved c =
-    let line = c.first-line.result.0.now in
-    let after = c.first-line.result.1.now in
-    let next = state_of c.read-line.new.self in
+    let line = c.first_line.result.0.now in
+    let after = c.first_line.result.1.now in
+    let next = state_of c.read_line.new.self in
     let some : 0 < length c.loop-rest.rest.now = search rules in
-    let fewer = shorter c.loop-rest.rest.now line after some c.first-line.ensures in (
+    let fewer = shorter c.loop-rest.rest.now line after some c.first_line.ensures in (
       omega (arith, fewer, c.loop-rest.invariant.0),
-      λ m t leads. c.loop-rest.invariant.1 m t (goes_on line after next some c.first-line.ensures c.in-default.ensures leads),
-      λ e stops. c.loop-rest.invariant.2 e (later line after next some c.first-line.ensures c.in-default.ensures stops),
+      λ m t leads. c.loop-rest.invariant.1 m t (goes_on line after next some c.first_line.ensures c.in_default.ensures leads),
+      λ e stops. c.loop-rest.invariant.2 e (later line after next some c.first_line.ensures c.in_default.ensures stops),
     )
 
 -- the text has led to what the draft says

@@ -2,20 +2,20 @@ use Rattle.std.proofs.lemmas.Result.{err_from_is_err_and, MatchResult-weaker}
 use Rattle.job_line.proofs.Heading.{nothing_said, lost_head, said_so, lost_rest}
 use Rattle.job_line.proofs.line.said.Goals as goal
 
-pub returns-in-err-keyword-of : goal.returns-in-err-keyword-of
-returns-in-err-keyword-of c =
-    let left = err_from_is_err_and c.from-residual.result c.from-residual.ensures.1 in
+pub returns-in_err-keyword_of-in-Some : goal.returns-in_err-keyword_of-in-Some
+returns-in_err-keyword_of-in-Some c =
+    let left = err_from_is_err_and c.from_residual.result c.from_residual.ensures.1 in
     rw (left.1, left.2) (
     lost_head c.args.words.now c.in-Some.rest.now c.in-Some.first.now c.in-Some.ensures.cases.0
-    c.in-err-keyword-of.field-0.0 c.in-err-keyword-of.ensures
+    c.in_err-keyword_of-in-Some.field-0.0 c.in_err-keyword_of-in-Some.ensures
     )
 
-pub returns-in-ok-keyword-of : goal.returns-in-ok-keyword-of
-returns-in-ok-keyword-of c =
-    let k = c.in-ok-keyword-of.field-0 in
-    let head = c.in-ok-keyword-of.ensures in
+pub returns-in_ok-keyword_of-in-Some : goal.returns-in_ok-keyword_of-in-Some
+returns-in_ok-keyword_of-in-Some c =
+    let k = c.in_ok-keyword_of-in-Some.field-0 in
+    let head = c.in_ok-keyword_of-in-Some.ensures in
     let is = c.in-Some.ensures.cases.0 in
-    MatchResult-weaker c.said-after.result c.said-after.ensures
+    MatchResult-weaker c.said_after.result c.said_after.ensures
     (said_so c.args.words.now c.in-Some.rest.now c.in-Some.first.now is k head c.args.line)
     (lost_rest c.args.words.now c.in-Some.rest.now c.in-Some.first.now is k head)
 

@@ -7,26 +7,26 @@ use Rattle.job_line.specs.Words.{texts}
 use Rattle.job_line.proofs.Listed.{numbers_more, not_all}
 use Rattle.job_line.proofs.numbers.numbers_of.Goals as goal
 
-pub returns-in-err-number-of : goal.returns-in-err-number-of
-returns-in-err-number-of c =
-    let told = c.in-err-number-of.ensures in
-    let left = err_from_is_err_and c.from-residual.result c.from-residual.ensures.1 in
+pub returns-in_err-number_of : goal.returns-in_err-number_of
+returns-in_err-number_of c =
+    let told = c.in_err-number_of.ensures in
+    let left = err_from_is_err_and c.from_residual.result c.from_residual.ensures.1 in
     rw (left.1, left.2) (
     subst (RefusesNumbers (texts c.args.words.now)) (sym told.1)
     (not_words (not_all c.args.words.now c.loop-word.word-index c.loop-word-test.true told.0))
     )
 
-pub returns-in-err-push : goal.returns-in-err-push
-returns-in-err-push c =
-    let left = err_from_is_err_and c.from-residual-in-err-push.result c.from-residual-in-err-push.ensures.1 in
+pub returns-in_err-push : goal.returns-in_err-push
+returns-in_err-push c =
+    let left = err_from_is_err_and c.from_residual-in_err-push.result c.from_residual-in_err-push.ensures.1 in
     rw (left.1, left.2) no_memory
 
 pub loop-word-preserved : goal.loop-word-preserved
 loop-word-preserved c =
-    let told = c.in-ok-number-of.ensures in
+    let told = c.in_ok-number_of.ensures in
     let old = vec_items c.loop-word.numbers in
     numbers_more c.args.words.now c.loop-word.word-index old (vec_items c.push.new.self) c.loop-word-test.true c.loop-word.invariant told.0
-    (c.in-ok-push.ensures.items ∙ ap (λ (n : ℕ). old ++ n ∷ []) told.1)
+    (c.in_ok-push.ensures.items ∙ ap (λ (n : ℕ). old ++ n ∷ []) told.1)
 
 pub returns : goal.returns
 returns c =

@@ -2,4 +2,4 @@ use native.Mathlib.Nat.{sub-zero}
 use Rattle.job_line.proofs.words.code_of.Goals as goal
 
 pub returns : goal.returns
-returns c = (c.code-end.result, c.code-end.ensures, rw sub-zero)
+returns c = (c.code_end.result, c.code_end.ensures, rw sub-zero)

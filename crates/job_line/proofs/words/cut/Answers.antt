@@ -11,7 +11,7 @@ loop-start-init c =
 pub loop-start-preserved : goal.loop-start-preserved
 loop-start-preserved c =
     cut_more c.loop-start.invariant c.in-Some.ensures (texts (vec_items c.push.new.self))
-    (ap texts c.in-ok-push.ensures.items ∙ map_push (λ w. w.now) (vec_items c.loop-start.words) _)
+    (ap texts c.in_ok-push.ensures.items ∙ map_push (λ w. w.now) (vec_items c.loop-start.words) _)
 
 pub returns : goal.returns
-returns c = cut_all c.loop-start.invariant c.in-default.ensures
+returns c = cut_all c.loop-start.invariant c.in_default.ensures
