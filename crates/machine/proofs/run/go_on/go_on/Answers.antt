@@ -1,5 +1,4 @@
 use Rattle.std.proofs.Common.{refl}
-use Rattle.stack.specs.Contents.{places}
 use Rattle.table.specs.Places.{table_of}
 use Rattle.table.proofs.Held.{held}
 use Rattle.runs.specs.Slices.{turned_down, served}
