@@ -37,7 +37,7 @@ def spelled(name):
     if name in OTHERWISE:
         return OTHERWISE[name]
     if name[0].isupper():
-        return "".join(p[:1].upper() + p[1:] for p in name.split("-"))
+        return "".join(p[:1].upper() + p[1:] for p in re.split("[-_]", name))
     return name.replace("-", "_")
 
 
@@ -63,7 +63,7 @@ def declared():
         made |= set(GOAL.findall(text))
         for line in text.split("\n"):
             m = DATA.match(line) or DECLARED.match(line)
-            if m and "-" in m.group(1).strip("-"):
+            if m and (("-" in m.group(1).strip("-")) or (m.group(1)[0].isupper() and "_" in m.group(1))):
                 ours.add(m.group(1))
     return Names({n for n in ours if n not in made and re.match(r"[A-Za-z]", n)})
 

@@ -2,7 +2,7 @@
 use Rattle.std.specs.Prelude.{◌≡◌, ℕ, Bool, true, false, cond, List, [], ◌∷◌, nat_le}
 use Rattle.rows.specs.Rows.{row_at}
 use Rattle.semantics.specs.Cuts.{largest_slice}
-use Rattle.runs.specs.Slices.{Board, running, ended, Goes_on}
+use Rattle.runs.specs.Slices.{Board, running, ended, GoesOn}
 use Rattle.history.specs.declared.board.Seen.{Seen}
 use Rattle.history.specs.declared.board.Seen.TheVariants as seen
 use Rattle.history.specs.declared.board.Turn.{Turn}
@@ -40,7 +40,7 @@ module _ (table : List ℕ) (k h limit : ℕ) where
   -- one turn of a board: the turn as it was, the turn as it is then, and the board that comes of it
   abbrev pub TakesTurn : Board → Turn → Turn → Board → Type 0
   -- a run that has not ended goes on by the slice
-  TakesTurn (running n s) t u b = Goes_on (row_at table) k h limit t.slice n s b × (u ≡ saw t (seen_of t.slice b))
+  TakesTurn (running n s) t u b = GoesOn (row_at table) k h limit t.slice n s b × (u ≡ saw t (seen_of t.slice b))
   -- one that has ended does not
   TakesTurn (ended e n s) t u b = (u ≡ saw t seen.Unused) × (b ≡ ended e n s)
 

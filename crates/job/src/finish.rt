@@ -1,6 +1,6 @@
 // From what the lines said to a job.
 ghost use Rattle.std.specs.Prelude.{Decides, MatchResult};
-ghost use Rattle.std.specs.List.{AllByRecursion as All};
+ghost use Rattle.std.specs.List.{AllByRecursion};
 ghost use Rattle.job.specs.Drafts.{state_of};
 ghost use Rattle.job.specs.Finishes.{Fit, Suits, Unsuited, Finishes, Unfinished};
 
@@ -27,7 +27,7 @@ fn is_fit(cell: Cell) -> bool
 
 // Whether it can hold all of them.
 fn all_fit(cells: &[Cell]) -> bool
-    ensures { Decides result (All Fit cells.now) }
+    ensures { Decides result (AllByRecursion Fit cells.now) }
 {
     for cell in cells {
         if !is_fit(*cell) {
@@ -39,7 +39,7 @@ fn all_fit(cells: &[Cell]) -> bool
 
 // Whether the cells suit every board: a board of pairs asks that a pair list can hold them.
 fn suit(cells: &[Cell], boards: &[BoardLine]) -> Result<(), BadLine>
-    ensures { MatchResult result (λ _. All (Suits cells.now) boards.now) (Unsuited cells.now boards.now) }
+    ensures { MatchResult result (λ _. AllByRecursion (Suits cells.now) boards.now) (Unsuited cells.now boards.now) }
 {
     if all_fit(cells) {
         return Ok(());

@@ -1,7 +1,7 @@
 // A line cut into words.
 ghost use Rattle.std.specs.Prelude.{◌≡◌, ◌<◌, length, Decides, MatchResult};
 ghost use Rattle.std.specs.Vec as vecs;
-ghost use Rattle.std.specs.List.{AllByRecursion as All};
+ghost use Rattle.std.specs.List.{AllByRecursion};
 ghost use Rattle.job_line.specs.declared.wrong.Wrong.TheVariants.{Memory};
 ghost use Rattle.job_line.specs.Words.{Plain, MarksComment, CodeEnds, CodeOf, texts, WordsOf, LineWords, RefusesWords, Miscounted};
 
@@ -35,7 +35,7 @@ fn is_plain(b: u8) -> bool
 
 // Whether all of them may.
 fn all_plain(bytes: &[u8]) -> bool
-    ensures { Decides result (All Plain bytes.now) }
+    ensures { Decides result (AllByRecursion Plain bytes.now) }
 {
     for b in bytes {
         if !is_plain(*b) {

@@ -12,7 +12,7 @@ use Rattle.runs.specs.declared.end.Stop.TheVariants as stop
 use Rattle.runs.specs.declared.end.End.{End}
 use Rattle.runs.specs.declared.end.End.TheVariants.{Finished, Stopped, Limit}
 use Rattle.runs.specs.Tries.{made, refused}
-use Rattle.runs.specs.Slices.{Board, running, ended, Empty, Serves, finishes, runs_out, pauses, stops, steps, Goes_on, turned_down, served}
+use Rattle.runs.specs.Slices.{Board, running, ended, Empty, Serves, finishes, runs_out, pauses, stops, steps, GoesOn, turned_down, served}
 use Rattle.runs.specs.Histories.{GoesThrough, rests, goes_on}
 use Rattle.runs.proofs.Tries.{one_try}
 
@@ -100,7 +100,7 @@ module _ (rows : ℕ → Option Row) where
           recounted (omega linear) (onward d' (further g w) f (omega linear) le fin)
 
       one_more : {e : End} {N a₀ a n : ℕ} {s₀ s t : Configuration} {b : Board} → N ≤ limit → Final H e N t →
-          Comes K H e N s₀ t a₀ (running n s) → Goes_on rows k h limit a n s b → Comes K H e N s₀ t (a₀ + cond (leb a largest_slice) a 0) b
+          Comes K H e N s₀ t a₀ (running n s) → GoesOn rows k h limit a n s b → Comes K H e N s₀ t (a₀ + cond (leb a largest_slice) a 0) b
       one_more {a} le fin (under_way q g f p lt) (turned_down gt) =
           rw (lt-leb a largest_slice gt) (recounted (omega linear) (under_way q g f p lt))
       one_more {a} le fin (under_way q g f p lt) (served le' d) =

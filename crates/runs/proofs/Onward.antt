@@ -7,7 +7,7 @@ use Rattle.semantics.specs.Machine.{Configuration}
 use Rattle.semantics.specs.Traces.{Takes, none, more}
 use Rattle.semantics.proofs.IsSimp.{row_machine_is_simp}
 use Rattle.runs.specs.Tries.{made}
-use Rattle.runs.specs.Slices.{Board, Serves, finishes, runs_out, pauses, stops, steps, Goes_on, turned_down, served}
+use Rattle.runs.specs.Slices.{Board, Serves, finishes, runs_out, pauses, stops, steps, GoesOn, turned_down, served}
 use Rattle.runs.specs.Promise.{count_of, left_of, AgreesOnward}
 use Rattle.runs.specs.Simp.{SimpOnward}
 use Rattle.runs.proofs.Histories.{append_history}
@@ -28,11 +28,11 @@ module _ (rows : ℕ → Option Row) (k h limit : ℕ) where
   taking {n} {s} {b} (stops e lt d) = still n s b refl refl
   taking {n} (steps e lt (made d f) g) = let z = taking g in (suc z.0, omega (linear, z.1), more d z.2)
 
-  pub going : {a n : ℕ} {s : Configuration} {b : Board} → Goes_on rows k h limit a n s b → TakesTo n s b
+  pub going : {a n : ℕ} {s : Configuration} {b : Board} → GoesOn rows k h limit a n s b → TakesTo n s b
   going {n} {s} {b} (turned_down lt) = still n s b refl refl
   going (served le g) = taking g
 
-module _ (table : List ℕ) (loaded : Loaded table) (k h limit a n : ℕ) (s : Configuration) (b : Board) (g : Goes_on (row_at table) k h limit a n s b) where
+module _ (table : List ℕ) (loaded : Loaded table) (k h limit a n : ℕ) (s : Configuration) (b : Board) (g : GoesOn (row_at table) k h limit a n s b) where
   pub agrees_onward : AgreesOnward table k h limit a n s b
   agrees_onward m₁ m₂ same k₂ h₂ l₁ l₂ b₂ h₁ hist₂ = agree table loaded limit m₁ m₂ same k h k₂ h₂ _ l₂ b b₂ (append_history table k h limit h₁ g) hist₂
 

@@ -2,7 +2,7 @@
 use Rattle.std.proofs.Common.{◌≡◌, ℕ, suc, Option, refl, subst, arith as linear}
 use Rattle.rows.specs.declared.row.Row.{Row}
 use Rattle.semantics.specs.Machine.{Configuration}
-use Rattle.runs.specs.Slices.{Board, Serves, finishes, runs_out, pauses, stops, steps, Goes_on, turned_down, served, OneAnswerOn, OneAnswer}
+use Rattle.runs.specs.Slices.{Board, Serves, finishes, runs_out, pauses, stops, steps, GoesOn, turned_down, served, OneAnswerOn, OneAnswer}
 use Rattle.runs.proofs.Tries.{one_try}
 
 module _ (rows : ℕ → Option Row) (k h limit : ℕ) where
@@ -30,7 +30,7 @@ module _ (rows : ℕ → Option Row) (k h limit : ℕ) where
   one_serving {c} (steps {a} {n} y lt w d) (steps y' lt' w' d') =
       one_serving d (subst (λ t. Serves rows k h limit a (suc n) t c) (one_try rows k h w' w).1 d')
 
-  pub one_going_on : {a n : ℕ} {s : Configuration} {b c : Board} → Goes_on rows k h limit a n s b → Goes_on rows k h limit a n s c → b ≡ c
+  pub one_going_on : {a n : ℕ} {s : Configuration} {b c : Board} → GoesOn rows k h limit a n s b → GoesOn rows k h limit a n s c → b ≡ c
   one_going_on (turned_down lt) (turned_down lt') = refl
   one_going_on (turned_down lt) (served le d) = absurd (omega linear)
   one_going_on (served le d) (turned_down lt) = absurd (omega linear)

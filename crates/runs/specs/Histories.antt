@@ -5,7 +5,7 @@ use Rattle.semantics.specs.Machine.{Configuration}
 use Rattle.semantics.specs.Cells.{Cells}
 use Rattle.semantics.specs.WholeRuns.{program_over}
 use Rattle.semantics.specs.Agreement.{control_need_at, results_need_at}
-use Rattle.runs.specs.Slices.{Board, running, Goes_on}
+use Rattle.runs.specs.Slices.{Board, running, GoesOn}
 
 abbrev pub largest_limit : ℕ
 largest_limit = 1000000000
@@ -25,7 +25,7 @@ module _ (table : List ℕ) (k h limit : ℕ) where
   -- go-ons, the first one first, from one board to another. After an end there is none.
   pub data GoesThrough : Board → List ℕ → Board → Type 0 where
     rests : {b : Board} → GoesThrough b [] b
-    goes_on : {n a : ℕ} {s : Configuration} {l : List ℕ} {b c : Board} → Goes_on (row_at table) k h limit a n s b →
+    goes_on : {n a : ℕ} {s : Configuration} {l : List ℕ} {b c : Board} → GoesOn (row_at table) k h limit a n s b →
         GoesThrough b l c → GoesThrough (running n s) (a ∷ l) c
 
   -- a board that has begun over the cells m, and has gone on by the slices l

@@ -29,14 +29,14 @@ module _ (rows : ℕ → Option Row) (k h limit : ℕ) where
         Serves a (suc n) t b → Serves (suc a) n s b
 
   -- one go-on, with that slice, of a run that has that count and configuration
-  pub data Goes_on (a n : ℕ) (s : Configuration) : Board → Type 0 where
-    turned_down : largest_slice < a → Goes_on a n s (running n s)
-    served : {b : Board} → a ≤ largest_slice → Serves a n s b → Goes_on a n s b
+  pub data GoesOn (a n : ℕ) (s : Configuration) : Board → Type 0 where
+    turned_down : largest_slice < a → GoesOn a n s (running n s)
+    served : {b : Board} → a ≤ largest_slice → Serves a n s b → GoesOn a n s b
 
 pub record OneAnswerOn (rows : ℕ → Option Row) (k h limit : ℕ) : Type 0 where
   pub one_try : (s t u : Configuration) (x y : Result (Unit {0}) Stop) → Tried rows k h s x t → Tried rows k h s y u → (x ≡ y) × (t ≡ u)
   pub one_serving : (a n : ℕ) (s : Configuration) (b c : Board) → Serves rows k h limit a n s b → Serves rows k h limit a n s c → b ≡ c
-  pub one_going_on : (a n : ℕ) (s : Configuration) (b c : Board) → Goes_on rows k h limit a n s b → Goes_on rows k h limit a n s c → b ≡ c
+  pub one_going_on : (a n : ℕ) (s : Configuration) (b c : Board) → GoesOn rows k h limit a n s b → GoesOn rows k h limit a n s c → b ≡ c
 
 abbrev pub OneAnswer : Type 0
 OneAnswer = (rows : ℕ → Option Row) (k h limit : ℕ) → OneAnswerOn rows k h limit

@@ -113,36 +113,36 @@ module _ (rows : ℕ → Option Row) where
         let h = z.2 in let u : z.1 ≡ r = cc in subst (Belong rows c) u z.3
 
   -- a rule fits
-  pub data Goes_on (s : Configuration) : Type 0 where
-    moves : {t : Configuration} → Transition rows s t → Goes_on s
-    is_refused : {f : Fault} → Refused rows s f → Goes_on s
+  pub data GoesOn (s : Configuration) : Type 0 where
+    moves : {t : Configuration} → Transition rows s t → GoesOn s
+    is_refused : {f : Fault} → Refused rows s f → GoesOn s
 
-  reads : {p l : ℕ} {c : List Control} {r : List Item} {m : Cells} → rows p ≡ Some (row.Contents l) → (v : Result ℤ StoreFault) → read m l ≡ v → Goes_on (conf (Whole p ∷ c) r m)
+  reads : {p l : ℕ} {c : List Control} {r : List Item} {m : Cells} → rows p ≡ Some (row.Contents l) → (v : Result ℤ StoreFault) → read m l ≡ v → GoesOn (conf (Whole p ∷ c) r m)
   reads e (Ok a) q = moves (contents e q)
   reads e (Err f) q = is_refused (contents_refused e q)
 
   computes : {p x y : ℕ} {o : Operator} {a b : ℤ} {c : List Control} {r : List Item} {m : Cells} → rows p ≡ Some (row.Arithmetic o x y) →
-      (v : Result ℤ ArithmeticFault) → computed o a b ≡ v → Goes_on (conf (Finish p ∷ c) (item.Number b ∷ item.Number a ∷ r) m)
+      (v : Result ℤ ArithmeticFault) → computed o a b ≡ v → GoesOn (conf (Finish p ∷ c) (item.Number b ∷ item.Number a ∷ r) m)
   computes e (Ok z) q = moves (finish_arithmetic e q)
   computes e (Err f) q = is_refused (arithmetic_refused e q)
 
   puts : {p l x : ℕ} {a : ℤ} {c : List Control} {r : List Item} {m : Cells} → rows p ≡ Some (row.Assignment l x) →
-      (v : Result (Unit {0}) StoreFault) → asked m l a ≡ v → Goes_on (conf (Finish p ∷ c) (item.Number a ∷ item.Location l ∷ r) m)
+      (v : Result (Unit {0}) StoreFault) → asked m l a ≡ v → GoesOn (conf (Finish p ∷ c) (item.Number a ∷ item.Location l ∷ r) m)
   puts e (Ok tt) q = moves (finish_assignment e q)
   puts e (Err f) q = is_refused (assignment_refused e q)
 
   decides : {p b x y : ℕ} {c : List Control} {r : List Item} {m : Cells} → rows p ≡ Some (row.Choice b x y) → (t : Bool) →
-      Goes_on (conf (Finish p ∷ c) (item.Truth t ∷ item.Row x ∷ item.Row y ∷ r) m)
+      GoesOn (conf (Finish p ∷ c) (item.Truth t ∷ item.Row x ∷ item.Row y ∷ r) m)
   decides e true = moves (finish_true e)
   decides e false = moves (finish_false e)
 
   turns : {p b x : ℕ} {c : List Control} {r : List Item} {m : Cells} → rows p ≡ Some (row.Loop b x) → (t : Bool) →
-      Goes_on (conf (Finish p ∷ c) (item.Truth t ∷ item.Row b ∷ item.Row x ∷ r) m)
+      GoesOn (conf (Finish p ∷ c) (item.Truth t ∷ item.Row b ∷ item.Row x ∷ r) m)
   turns e true = moves (finish_turning e)
   turns e false = moves (finish_leaving e)
 
   module _ (p : ℕ) (c : List Control) (m : Cells) where
-    on_whole : (o : Option Row) (r : List Item) → rows p ≡ o → BeforeWhole o (Belong rows c) r → Goes_on (conf (Whole p ∷ c) r m)
+    on_whole : (o : Option Row) (r : List Item) → rows p ≡ o → BeforeWhole o (Belong rows c) r → GoesOn (conf (Whole p ∷ c) r m)
     on_whole None r e k = absurd k
     on_whole (Some (row.Number a)) r e k = moves (number e)
     on_whole (Some (row.Contents l)) r e k = reads e (read m l) refl
@@ -157,10 +157,10 @@ module _ (rows : ℕ → Option Row) where
     on_whole (Some (row.Choice b x y)) r e k = moves (choice e)
     on_whole (Some (row.Loop b x)) r e k = moves (loop e)
 
-    found : {r r₁ : List Item} → r ≡ r₁ → Goes_on (conf (Finish p ∷ c) r₁ m) → Goes_on (conf (Finish p ∷ c) r m)
-    found q z = subst (λ r. Goes_on (conf (Finish p ∷ c) r m)) (sym q) z
+    found : {r r₁ : List Item} → r ≡ r₁ → GoesOn (conf (Finish p ∷ c) r₁ m) → GoesOn (conf (Finish p ∷ c) r m)
+    found q z = subst (λ r. GoesOn (conf (Finish p ∷ c) r m)) (sym q) z
 
-    on_finish : (o : Option Row) (r : List Item) → rows p ≡ o → BeforeFinish o (Belong rows c) r → Goes_on (conf (Finish p ∷ c) r m)
+    on_finish : (o : Option Row) (r : List Item) → rows p ≡ o → BeforeFinish o (Belong rows c) r → GoesOn (conf (Finish p ∷ c) r m)
     on_finish None r e k = absurd k
     on_finish (Some (row.Number a)) r e k = absurd k
     on_finish (Some (row.Contents l)) r e k = absurd k
@@ -175,6 +175,6 @@ module _ (rows : ℕ → Option Row) where
     on_finish (Some (row.Choice b x y)) r e k = found k.2 (decides e k.0)
     on_finish (Some (row.Loop b x)) r e k = found k.2 (turns e k.0)
 
-  pub goes_on : (i : Control) (c : List Control) (r : List Item) (m : Cells) → Belong rows (i ∷ c) r → Goes_on (conf (i ∷ c) r m)
+  pub goes_on : (i : Control) (c : List Control) (r : List Item) (m : Cells) → Belong rows (i ∷ c) r → GoesOn (conf (i ∷ c) r m)
   goes_on (Whole p) c r m k = on_whole p c m (rows p) r refl k
   goes_on (Finish p) c r m k = on_finish p c m (rows p) r refl k

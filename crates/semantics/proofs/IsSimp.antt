@@ -29,14 +29,14 @@ use Rattle.semantics.proofs.Step.{not_both}
 use Rattle.semantics.proofs.SimpSteps.{none_at_end, none_undefined, none_without_outcome}
 use Rattle.semantics.proofs.Trees.{tree, program_of, one_tree, whole_read, finish_read, number_read}
 use Rattle.semantics.proofs.Simulate.{simulated, simulated_all}
-use Rattle.semantics.proofs.Cohere.{before, kept, Goes_on, moves, is_refused, goes_on}
+use Rattle.semantics.proofs.Cohere.{before, kept, GoesOn, moves, is_refused, goes_on}
 
 module _ (rows : ℕ → Option Row) where
   no_step_from_end : {c' : List Instruction} {r' : List simp.Result} {M : Memory} {T : Simp} → ReadsStack rows [] c' → ¬ SimpTransition (simp⟨⟩ c' r' M) T
   no_step_from_end no_control w = none_at_end w
 
   -- a rule fits, and no number stands against it
-  made : {s : Configuration} → Goes_on rows s → ((f : Fault) → ¬ Refused rows s f) → (t : Configuration) × Transition rows s t
+  made : {s : Configuration} → GoesOn rows s → ((f : Fault) → ¬ Refused rows s f) → (t : Configuration) × Transition rows s t
   made (moves {t} w) free = (t, w)
   made (is_refused {f} d) free = absurd (free f d)
 
@@ -45,7 +45,7 @@ module _ (rows : ℕ → Option Row) where
   made_where_simp_goes (conf [] r m) (simp⟨⟩ c' r' M) T k d w free = absurd (no_step_from_end d.0 w)
   made_where_simp_goes (conf (i ∷ c) r m) S T k d w free = made (goes_on rows i c r m k) free
 
-  fits : {s : Configuration} → Goes_on rows s → ¬ NoRuleFits rows s
+  fits : {s : Configuration} → GoesOn rows s → ¬ NoRuleFits rows s
   fits (moves {t} w) none = none.no_transition t w
   fits (is_refused {f} d) none = none.no_number f d
 

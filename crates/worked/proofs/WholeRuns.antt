@@ -11,7 +11,7 @@ use Rattle.semantics.specs.Machine.{Configuration, cells_of}
 use Rattle.semantics.specs.Agreement.{control_need_at, results_need_at}
 use Rattle.semantics.specs.Worked.{Case, cells_with, Worked}
 use Rattle.transition.specs.Exchanges.{Room}
-use Rattle.runs.specs.Slices.{Board, Goes_on}
+use Rattle.runs.specs.Slices.{Board, GoesOn}
 use Rattle.runs.specs.Histories.{Admits, History, rests, goes_on}
 use Rattle.machine.specs.declared.run.BeginRefusal.{BeginRefusal}
 use Rattle.machine.specs.declared.run.Ended.{Ended}
@@ -31,7 +31,7 @@ module _ (table : List ℕ) (k k' : Room) (same : k' ≡ k) (limit : ℕ) (s : C
   Run = History table k.control k.results limit (cells_of s) (largest_slice ∷ [])
 
   abbrev Slice : Room → Running → Configuration → Board → Type 0
-  Slice k r t b = Goes_on (row_at table) k.control k.results r.limit largest_slice r.count t b
+  Slice k r t b = GoesOn (row_at table) k.control k.results r.limit largest_slice r.count t b
 
   begun : {t : Configuration} {b : Board} (r : Running) → Begins table k.control k.results limit s (Ok r) t → Slice k r t b → Run b
   begun r (begins e a) g = record { admitted = a; went = goes_on g rests }

@@ -3,7 +3,7 @@ ghost use Rattle.std.specs.Prelude.{◌≡◌};
 ghost use Rattle.worked.specs.Setups.{table_at};
 
 // A table's words, written row by row.
-macro_rules! rows {
+macro_rules! rule_table {
     ($([$kind:expr, $a:expr, $b:expr, $c:expr]),+ $(,)?) => {
         &[$($kind, $a, $b, $c),+]
     };
@@ -13,14 +13,14 @@ macro_rules! rows {
 pub(crate) fn skip() -> &'static [u32]
     ensures { result.now ≡ table_at 1 }
 {
-    rows![[7, 0, 0, 0]]
+    rule_table![[7, 0, 0, 0]]
 }
 
 // l3 := 7
 pub(crate) fn put_seven() -> &'static [u32]
     ensures { result.now ≡ table_at 2 }
 {
-    rows![
+    rule_table![
         [0, 7, 0, 0], // 7
         [8, 3, 0, 0], // l3 := row 0
     ]
@@ -30,7 +30,7 @@ pub(crate) fn put_seven() -> &'static [u32]
 pub(crate) fn one_over_zero() -> &'static [u32]
     ensures { result.now ≡ table_at 3 }
 {
-    rows![
+    rule_table![
         [0, 1, 0, 0], // 1
         [0, 0, 0, 0], // 0
         [2, 3, 0, 1], // row 0 / row 1
@@ -42,7 +42,7 @@ pub(crate) fn one_over_zero() -> &'static [u32]
 pub(crate) fn copy_nine() -> &'static [u32]
     ensures { result.now ≡ table_at 4 }
 {
-    rows![
+    rule_table![
         [1, 9, 0, 0], // !l9
         [8, 3, 0, 0], // l3 := row 0
     ]
@@ -52,7 +52,7 @@ pub(crate) fn copy_nine() -> &'static [u32]
 pub(crate) fn endless() -> &'static [u32]
     ensures { result.now ≡ table_at 5 }
 {
-    rows![
+    rule_table![
         [3, 1, 0, 0],  // true
         [7, 0, 0, 0],  // skip
         [11, 0, 1, 0], // while row 0 do row 1
@@ -63,7 +63,7 @@ pub(crate) fn endless() -> &'static [u32]
 pub(crate) fn false_and_fault() -> &'static [u32]
     ensures { result.now ≡ table_at 6 }
 {
-    rows![
+    rule_table![
         [3, 0, 0, 0],  // false
         [0, 1, 0, 0],  // 1
         [0, 0, 0, 0],  // 0
@@ -79,7 +79,7 @@ pub(crate) fn false_and_fault() -> &'static [u32]
 pub(crate) fn factorial() -> &'static [u32]
     ensures { result.now ≡ table_at 7 }
 {
-    rows![
+    rule_table![
         [0, 1, 0, 0],   // 1
         [8, 2, 0, 0],   // l2 := row 0
         [1, 1, 0, 0],   // !l1
@@ -100,7 +100,7 @@ pub(crate) fn factorial() -> &'static [u32]
 pub(crate) fn exchange() -> &'static [u32]
     ensures { result.now ≡ table_at 9 }
 {
-    rows![
+    rule_table![
         [1, 1, 0, 0], // !l1
         [8, 3, 0, 0], // l3 := row 0
         [1, 2, 0, 0], // !l2
@@ -116,7 +116,7 @@ pub(crate) fn exchange() -> &'static [u32]
 pub(crate) fn lowest_over_minus_one() -> &'static [u32]
     ensures { result.now ≡ table_at 10 }
 {
-    rows![
+    rule_table![
         [0, 2147483648, 0, 0], // the lowest number
         [0, 4294967295, 0, 0], // -1
         [2, 3, 0, 1],          // row 0 / row 1
@@ -128,7 +128,7 @@ pub(crate) fn lowest_over_minus_one() -> &'static [u32]
 pub(crate) fn minus_seven_over_two() -> &'static [u32]
     ensures { result.now ≡ table_at 11 }
 {
-    rows![
+    rule_table![
         [0, 4294967289, 0, 0], // -7
         [0, 2, 0, 0],          // 2
         [2, 3, 0, 1],          // row 0 / row 1

@@ -5,7 +5,7 @@ ghost use Rattle.stack.specs.Contents.{contents, places};
 ghost use Rattle.table.specs.Places.{table_of};
 ghost use Rattle.transition.specs.Exchanges.{room};
 ghost use Rattle.transition.specs.Steps.{configuration};
-ghost use Rattle.runs.specs.Slices.{Serves, Goes_on};
+ghost use Rattle.runs.specs.Slices.{Serves, GoesOn};
 ghost use Rattle.runs.specs.Promise.{AgreesOnward};
 ghost use Rattle.runs.specs.Simp.{SimpOnward};
 ghost use Rattle.machine.specs.States.{board_of, board_after, limit_of};
@@ -86,7 +86,7 @@ pub fn go_on<S: Store>(
     store: &mut S,
     slice: u32,
 ) -> Result<Progress, TurnedDown>
-    ensures goes { Goes_on (row_at (table_of program.now)) (places control.old) (places results.old) running.limit slice running.count (configuration control.old results.old (S.cells store.old)) (board_after result (configuration control.new results.new (S.cells store.new))) }
+    ensures goes { GoesOn (row_at (table_of program.now)) (places control.old) (places results.old) running.limit slice running.count (configuration control.old results.old (S.cells store.old)) (board_after result (configuration control.new results.new (S.cells store.new))) }
     ensures answers { Answered running slice result }
     ensures places { room control.new results.new ≡ room control.old results.old }
     ensures keeps { S.rests store.new ≡ S.rests store.old }
