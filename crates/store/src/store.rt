@@ -29,7 +29,7 @@ pub trait Store {
     /// The cell at a location. Asking changes no cell.
     fn tell(&self, location: u8) -> Cell
         ensures tells { result ≡ cells self.now location }
-        ensures spares { (k : ℕ) → cells self.now k ≡ cells self.now k };
+        ensures spares { (k : ℕ) → cells self.exit.now k ≡ cells self.entry.now k };
 
     /// Puts a number at a location, or says which question got a no: is the location known, is its
     /// cell free, does the number lie within its limits?
