@@ -1,3 +1,4 @@
+pub mod Given
 pub mod Leftover
 pub mod Sole
 pub mod Turns
