@@ -1,16 +1,27 @@
 // How many places a run needs on the two stacks.
-ghost use Rattle.std.specs.Prelude.{◌≡◌, ℕ, ◌+◌, ◌<◌, max, length};
+ghost use Rattle.std.specs.Prelude.{◌≡◌, ℕ, ◌+◌, ◌<◌, Some, max, length};
 ghost use Rattle.rows.specs.Parts.{EachPart};
 ghost use Rattle.loading.specs.Stacks.{needed};
 ghost use Rattle.loading.specs.Surveys.{Small, known_of};
+ghost use Rattle.loading.specs.Texts.{text_of_needs};
 
 use rows::row::Row;
+use std::fmt;
 
 /// The places that a row's run needs at most: on the control stack and on the results stack.
 #[derive(Clone, Copy, PartialEq, Eq, Debug)]
 pub struct Needs {
     pub control: u16,
     pub results: u16,
+}
+
+impl fmt::Display for Needs {
+    ghost output = { λ n. Some (text_of_needs n) };
+
+    fn fmt<W: fmt::Write>(&self, f: &mut fmt::Formatter<W>) -> fmt::Result {
+        let Needs { control, results } = *self;
+        write!(f, "control {control} results {results}")
+    }
 }
 
 // An operator of two operands: the left one is worked out above the right one and the operator,
