@@ -1,4 +1,3 @@
-mod Assigns
 mod Lifts
 mod Simulated
 mod Tries
