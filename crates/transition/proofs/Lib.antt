@@ -1,3 +1,4 @@
+pub mod Kept
 mod Lifts
 mod Simulated
 mod Tries
