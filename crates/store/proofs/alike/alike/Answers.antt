@@ -1,8 +1,7 @@
-use Rattle.std.proofs.Common.{◌≡◌, refl, rules, sym, ◌∙◌, below_more}
+use Rattle.std.proofs.Common.{◌≡◌, refl, Decides, not, rules, sym, ◌∙◌, below_more}
 use Rattle.cells.specs.Cells.{EqualCells}
 use Rattle.std.proofs.lemmas.Bool.{not-false}
 use Rattle.cells.proofs.Laws.{equal_cells}
-use Rattle.cells.proofs.Equality.{same_cell}
 use Rattle.store.proofs.alike.alike.Goals as goal
 
 pub returns : goal.returns
@@ -18,5 +17,6 @@ returns g c =
 
 pub loop-k-preserved : goal.loop-k-preserved
 loop-k-preserved g c =
-    let told : c.tell.result ≡ c.tell-in-loop-k.result = same_cell _ _ (not-false _ (sym c.if-ne.ensures)) in
+    let same : Decides (not c.ne.result) (c.tell.result ≡ c.tell-in-loop-k.result) = search rules in
+    let told : c.tell.result ≡ c.tell-in-loop-k.result = same.0 (sym c.if-ne.ensures) in
     below_more _ _ c.loop-k.invariant (sym c.tell.ensures.tells ∙ told ∙ c.tell-in-loop-k.ensures.tells)
