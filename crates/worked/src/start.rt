@@ -29,10 +29,7 @@ pub fn records_with(start: &[Holding]) -> [Record; 256]
 {
     let mut records = [Record::new(KnownCell::widest(None)); 256];
     // From the last to the first, so that of two at one location the first counts.
-    let mut left = start.len();
-    while left > 0 {
-        left -= 1;
-        let holding = start[left];
+    for holding in start.iter().rev() {
         records[holding.location as usize] = holding.record();
     }
     records
