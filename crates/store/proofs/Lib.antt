@@ -1,1 +1,3 @@
+pub mod KnownLemmas
+pub mod Searches
 pub mod SideLemmas
