@@ -1,3 +1,2 @@
 pub mod KnownLemmas
 pub mod Searches
-pub mod SideLemmas
