@@ -1,5 +1,5 @@
 // The memory that a board lends to its store, its stacks and its plan.
-use cells::cell::{Cell, Content};
+use cells::cell::Cell;
 use history::board::{Seen, Turn};
 use job::{BoardLine, Make};
 use semantics::item::{Control, Item};
@@ -71,7 +71,7 @@ impl CellMemory {
                 } else {
                     next[i - at] = Record::new(cell);
                 }
-                if let Content::Number(n) = cell.content {
+                if let Some(n) = cell.content {
                     words.push(i as i32)?;
                     words.push(n)?;
                 }

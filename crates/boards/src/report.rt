@@ -1,7 +1,7 @@
 // What a board did, line by line.
 use crate::bench::{Outcome, Standing};
 use crate::trouble::Trouble;
-use cells::cell::{Cell, Content};
+use cells::cell::Cell;
 use history::board::{Seen, Turn};
 use job::Make;
 
@@ -34,8 +34,8 @@ fn cell_lines(rt: &HostRuntime, cells: &[Cell; 256]) -> Result<(), Trouble> {
     for i in 0..256usize {
         if let Cell::Known(cell) = cells[i] {
             match cell.content {
-                Content::Unset => println!(rt; "cell {i}: unset")?,
-                Content::Number(n) => println!(rt; "cell {i}: {n}")?,
+                None => println!(rt; "cell {i}: unset")?,
+                Some(n) => println!(rt; "cell {i}: {n}")?,
             }
         }
     }

@@ -9,27 +9,21 @@ ghost use Rattle.caller.specs.Frames.{Frames};
 
 use machine::run::go_on::go_on;
 use machine::run::{Progress, Running, TurnedDown};
-use semantics::item::{Control, Item};
-use stack::stack::Stack;
 use store::store::Store;
 use table::program::Program;
+use transition::machine::Machine;
 
 /// Goes on with a run for two frames. The state that the first gives is the one that the second takes.
 pub fn two_frames<S: Store>(
     running: Running,
     program: &Program<'_>,
-    control: &mut Stack<'_, Control>,
-    results: &mut Stack<'_, Item>,
-    store: &mut S,
+    machine: &mut Machine<'_, S>,
     slice: u32,
 ) -> Result<Progress, TurnedDown>
-    ensures { Frames (table_of program.now) (places control.old) (places results.old) running.limit slice running.count (configuration control.old results.old (S.cells store.old)) (board_after result (configuration control.new results.new (S.cells store.new))) }
+    ensures { Frames (table_of program.now) (places machine.old.stacks.control) (places machine.old.stacks.results) running.limit slice running.count (configuration S.cells machine.old) (board_after result (configuration S.cells machine.new)) }
 {
-    match go_on(running, program, control, results, store, slice) {
-        Err(down) => Err(down),
-        Ok(progress) => match progress {
-            Progress::Ended(ended) => Ok(Progress::Ended(ended)),
-            Progress::Running(next) => go_on(next, program, control, results, store, slice),
-        },
+    match go_on(running, program, machine, slice)? {
+        Progress::Ended(ended) => Ok(Progress::Ended(ended)),
+        Progress::Running(next) => go_on(next, program, machine, slice),
     }
 }

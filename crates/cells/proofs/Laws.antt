@@ -1,10 +1,9 @@
 -- The laws of cells, of reading and of putting, for proofs that do not open the definitions.
-use Rattle.std.proofs.Common.{◌≡◌, ℕ, suc, ◌<◌, ◌≤◌, Bool, true, false, cond, ◌&&◌, ℤ, Ok, Err, Result, sym, refl, ap, ◌∙◌, inl, inr, arith, eq-eqb}
+use Rattle.std.proofs.Common.{◌≡◌, ℕ, suc, ◌<◌, ◌≤◌, Bool, true, false, cond, ◌&&◌, ℤ, Ok, Err, Result, sym, refl, ap, ◌∙◌, inl, inr, arith, eq-eqb, Some, None}
 use mathlib.Core.Path.{fun_ext}
 use Rattle.std.proofs.lemmas.Bool.Decides.{eqb_tells, leb_tells}
 use Rattle.cells.specs.declared.cell.Mark.{Mark}
 use Rattle.cells.specs.declared.cell.Mark.TheVariants.{Free, Fixed}
-use Rattle.cells.specs.declared.cell.Content.TheVariants.{Unset, Number}
 use Rattle.cells.specs.declared.cell.Cell.{Cell}
 use Rattle.cells.specs.declared.cell.Cell.TheVariants.{Unknown, Known}
 use Rattle.cells.specs.declared.fault.StoreFault.{StoreFault}
@@ -72,22 +71,22 @@ fault_location (Known h) l n f e = location_known h.mark (within h n) l f e
 -- ---- the cell that a put is made at
 
 module _ (c : Cell) (n : ℤ) where
-  pub left_accepted : accepts c n ≡ true → put_left c n ≡ with_content c (Number n)
+  pub left_accepted : accepts c n ≡ true → put_left c n ≡ with_content c (Some n)
   left_accepted e = rw e
 
   pub left_refused : accepts c n ≡ false → put_left c n ≡ c
   left_refused e = rw e
 
-if_kept : (b : Bool) (c : Cell) (n : ℤ) → with_content (cond b (with_content c (Number n)) c) Unset ≡ with_content c Unset
+if_kept : (b : Bool) (c : Cell) (n : ℤ) → with_content (cond b (with_content c (Some n)) c) None ≡ with_content c None
 if_kept true Unknown n = refl
 if_kept true (Known h) n = refl
 if_kept false c n = refl
 
 -- but for its content the cell is as it was
-pub limits_kept : (c : Cell) (n : ℤ) → with_content (put_left c n) Unset ≡ with_content c Unset
+pub limits_kept : (c : Cell) (n : ℤ) → with_content (put_left c n) None ≡ with_content c None
 limits_kept c n = if_kept (accepts c n) c n
 
-if_asked : (b : Bool) (c : Cell) (n m : ℤ) → accepts (cond b (with_content c (Number n)) c) m ≡ accepts c m
+if_asked : (b : Bool) (c : Cell) (n m : ℤ) → accepts (cond b (with_content c (Some n)) c) m ≡ accepts c m
 if_asked true Unknown n m = refl
 if_asked true (Known h) n m = refl
 if_asked false c n m = refl
@@ -100,7 +99,7 @@ inside : (a b : Bool) → (a && b) ≡ true → b ≡ true
 inside true b e = e
 inside false b e = cc
 
-if_lawful : (b : Bool) (c : Cell) (n : ℤ) → accepts c n ≡ b → Lawful c → Lawful (cond b (with_content c (Number n)) c)
+if_lawful : (b : Bool) (c : Cell) (n : ℤ) → accepts c n ≡ b → Lawful c → Lawful (cond b (with_content c (Some n)) c)
 if_lawful true Unknown n e p = tt
 if_lawful true (Known h) n e p = inside (free h.mark) (within h n) e
 if_lawful false c n e p = p
@@ -109,7 +108,7 @@ if_lawful false c n e p = p
 pub put_lawful : (c : Cell) (n : ℤ) → Lawful c → Lawful (put_left c n)
 put_lawful c n p = if_lawful (accepts c n) c n refl p
 
-set_read : (c : Cell) (l : ℕ) (n : ℤ) → accepts c n ≡ true → reading (with_content c (Number n)) l ≡ Ok n
+set_read : (c : Cell) (l : ℕ) (n : ℤ) → accepts c n ≡ true → reading (with_content c (Some n)) l ≡ Ok n
 set_read Unknown l n e = cc
 set_read (Known h) l n e = refl
 
@@ -148,7 +147,7 @@ module _ (c : ℕ → Cell) (l : ℕ) (n : ℤ) where
         | inr h ↦ rw h.0 (p k)
       ]
 
-  pub after_limits : (k : ℕ) → with_content (after_put c l n k) Unset ≡ with_content (c k) Unset
+  pub after_limits : (k : ℕ) → with_content (after_put c l n k) None ≡ with_content (c k) None
   after_limits k =
       elim (eqb_tells k l) [
         | inl h ↦ rw (h.0, h.1) (limits_kept (c l) n)

@@ -1,9 +1,7 @@
 -- A cell, its parts, and the law that every cell of a store meets.
 -- What a store stands for is a function from locations to cells, unknown past the 256.
-use Rattle.std.specs.Prelude.{◌≡◌, ℕ, ◌<◌, ◌≤◌, Bool, true, cond, ◌&&◌, ℤ, pos, negsuc, int_le, nat_lt}
+use Rattle.std.specs.Prelude.{◌≡◌, ℕ, ◌<◌, ◌≤◌, Bool, true, cond, ◌&&◌, ℤ, pos, negsuc, int_le, nat_lt, Option, Some, None}
 use Rattle.cells.specs.declared.cell.Mark.TheVariants.{Free, Fixed}
-use Rattle.cells.specs.declared.cell.Content.{Content}
-use Rattle.cells.specs.declared.cell.Content.TheVariants.{Unset, Number}
 use Rattle.cells.specs.declared.cell.KnownCell.{KnownCell}
 use Rattle.cells.specs.declared.cell.Cell.{Cell}
 use Rattle.cells.specs.declared.cell.Cell.TheVariants.{Unknown, Known}
@@ -13,9 +11,9 @@ abbrev pub within : KnownCell → ℤ → Bool
 within h n = int_le h.lowest n && int_le n h.highest
 
 -- what the cell holds, if anything, lies within its limits
-abbrev pub content_within : KnownCell → Content → Bool
-content_within h Unset = true
-content_within h (Number n) = within h n
+abbrev pub content_within : KnownCell → Option ℤ → Bool
+content_within h None = true
+content_within h (Some n) = within h n
 
 -- the law of limits
 abbrev pub Lawful : Cell → Type 0
@@ -23,11 +21,11 @@ Lawful Unknown = Unit {0}
 Lawful (Known h) = content_within h h.content ≡ true
 
 -- free, and with limits that every number of 32 bits lies within
-abbrev pub widest : Content → KnownCell
+abbrev pub widest : Option ℤ → KnownCell
 widest v = record { lowest = negsuc 2147483647; highest = pos 2147483647; mark = Free; content = v }
 
 -- the cell with another content, its limits and mark as they were
-abbrev pub with_content : Cell → Content → Cell
+abbrev pub with_content : Cell → Option ℤ → Cell
 with_content Unknown v = Unknown
 with_content (Known h) v = Known (record { lowest = h.lowest; highest = h.highest; mark = h.mark; content = v })
 

@@ -1,6 +1,5 @@
 -- What holds of every put, whatever the cells: the laws that a run over a store leans on.
-use Rattle.std.specs.Prelude.{◌≡◌, ℕ, true, ℤ, Ok, Err}
-use Rattle.cells.specs.declared.cell.Content.TheVariants.{Unset}
+use Rattle.std.specs.Prelude.{◌≡◌, ℕ, true, ℤ, Ok, Err, None}
 use Rattle.cells.specs.declared.cell.Cell.{Cell}
 use Rattle.cells.specs.declared.fault.StoreFault.{StoreFault}
 use Rattle.cells.specs.Faults.{location_of}
@@ -21,7 +20,7 @@ PutIsRead =
 -- limits and marks outlast a put, and so does being known: but for contents the cells are those of before
 abbrev pub PutsKeepLimits : Type 0
 PutsKeepLimits =
-    (c : ℕ → Cell) (l : ℕ) (n : ℤ) (k : ℕ) → with_content (after_put c l n k) Unset ≡ with_content (c k) Unset
+    (c : ℕ → Cell) (l : ℕ) (n : ℤ) (k : ℕ) → with_content (after_put c l n k) None ≡ with_content (c k) None
 
 -- a refused put leaves all cells, and names its own location
 abbrev pub RefusalsChangeNothing : Type 0

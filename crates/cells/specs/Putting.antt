@@ -1,8 +1,7 @@
 -- Putting a number at a location: what it leaves in the cells, and, apart from that, what it answers.
-use Rattle.std.specs.Prelude.{ℕ, Bool, true, false, cond, ◌&&◌, ℤ, Ok, Err, Result, ◌==◌}
+use Rattle.std.specs.Prelude.{ℕ, Bool, true, false, cond, ◌&&◌, ℤ, Ok, Err, Result, ◌==◌, Some}
 use Rattle.cells.specs.declared.cell.Mark.{Mark}
 use Rattle.cells.specs.declared.cell.Mark.TheVariants.{Free, Fixed}
-use Rattle.cells.specs.declared.cell.Content.TheVariants.{Number}
 use Rattle.cells.specs.declared.cell.Cell.{Cell}
 use Rattle.cells.specs.declared.cell.Cell.TheVariants.{Unknown, Known}
 use Rattle.cells.specs.declared.fault.StoreFault.{StoreFault}
@@ -22,7 +21,7 @@ accepts (Known h) n = free h.mark && within h n
 
 -- what a put of n leaves in the cell that it is made at: an accepted number is its content
 abbrev pub put_left : Cell → ℤ → Cell
-put_left c n = cond (accepts c n) (with_content c (Number n)) c
+put_left c n = cond (accepts c n) (with_content c (Some n)) c
 
 -- all cells after a put of n at l: those of other locations are as they were
 abbrev pub after_put : (ℕ → Cell) → ℕ → ℤ → ℕ → Cell

@@ -13,25 +13,18 @@ pub enum Mark {
     Fixed,
 }
 
-/// What a cell holds.
-#[derive(Clone, Copy, PartialEq, Eq, Debug)]
-pub enum Content {
-    Unset,
-    Number(i32),
-}
-
-/// A cell that the store knows: its limits, its mark and its content.
+/// A cell that the store knows: its limits, its mark and its content, the number that it holds if it is set.
 #[derive(Clone, Copy, PartialEq, Eq, Debug)]
 pub struct KnownCell {
     pub lowest: i32,
     pub highest: i32,
     pub mark: Mark,
-    pub content: Content,
+    pub content: Option<i32>,
 }
 
 impl KnownCell {
     /// A free cell that takes every number.
-    pub fn widest(content: Content) -> KnownCell
+    pub fn widest(content: Option<i32>) -> KnownCell
         ensures { result ≡ widest content }
     {
         KnownCell {
@@ -51,6 +44,7 @@ impl KnownCell {
 }
 
 /// What a store holds at one location.
+// No `Option<KnownCell>`: `read`, `admit` and `fixed` ask in one place whether the location is known, and an Option could not carry them.
 #[derive(Clone, Copy, PartialEq, Eq, Debug)]
 pub enum Cell {
     Unknown,
@@ -64,10 +58,7 @@ impl Cell {
     {
         match self {
             Cell::Unknown => Err(StoreFault::UnknownLocation(location)),
-            Cell::Known(cell) => match cell.content {
-                Content::Unset => Err(StoreFault::UnsetCell(location)),
-                Content::Number(number) => Ok(number),
-            },
+            Cell::Known(cell) => cell.content.ok_or(StoreFault::UnsetCell(location)),
         }
     }
 

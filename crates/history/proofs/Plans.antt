@@ -12,12 +12,11 @@ use Rattle.runs.proofs.Keeping.{kept}
 use Rattle.runs.proofs.Promise.{agree}
 use Rattle.machine.specs.declared.run.Running.{Running}
 use Rattle.machine.specs.declared.run.BeginRefusal.{BeginRefusal}
+use Rattle.machine.specs.declared.run.Progress.TheVariants as progress
 use Rattle.machine.specs.Begins.{first_no, Begins, begins, refuses}
-use Rattle.history.specs.declared.board.Fate.{Fate}
-use Rattle.history.specs.declared.board.Fate.TheVariants as fate
-use Rattle.history.specs.declared.board.Turn.{Turn}
+use Rattle.history.specs.declared.turn.Turn.{Turn}
 use Rattle.history.specs.Turns.{used, TakesTurns}
-use Rattle.history.specs.Plans.{fate_of, Calls, Follows, refused, followed, IfBegun}
+use Rattle.history.specs.Plans.{Fate, fate_of, Calls, Follows, refused, followed, IfBegun}
 use Rattle.history.proofs.Turns.{goes_through}
 
 -- what holds of the board that a begun run has come to, its fate and its configuration say
@@ -26,9 +25,9 @@ was_begun P limit (running n s) p = p
 was_begun P limit (ended e n s) p = p
 
 also : (P Q : Board → Type 0) → ((b : Board) → P b → Q b) → (r : Fate) (s : Configuration) → IfBegun r s P → IfBegun r s Q
-also P Q f (fate.Refused e) s p = tt
-also P Q f (fate.Running r) s p = f _ p
-also P Q f (fate.Ended e) s p = f _ p
+also P Q f (Err e) s p = tt
+also P Q f (Ok (progress.Running r)) s p = f _ p
+also P Q f (Ok (progress.Ended e)) s p = f _ p
 
 module _ (table : List ℕ) (k h limit : ℕ) where
   -- begin's answer, taken apart
@@ -62,14 +61,14 @@ module _ (table : List ℕ) (k h limit : ℕ) where
         followed z.asked z.admits (subst₂ (λ n s. TakesTurns table k h limit (running n s) ts us b) z.count z.over within)
 
     pub following : {us : List Turn} {s' : Configuration} (r : Fate) → Calls table k h limit s ts r us s' → Follows table k h limit s ts r us s'
-    following {us} {s'} (fate.Refused e) calls =
+    following {us} {s'} (Err e) calls =
         let z = refusal refl calls.0 in
-        subst₂ (λ us s'. Follows table k h limit s ts (fate.Refused e) us s') (sym calls.1) (sym z.1) (refused z.0)
-    following {us} {s'} (fate.Running q) calls =
+        subst₂ (λ us s'. Follows table k h limit s ts (Err e) us s') (sym calls.1) (sym z.1) (refused z.0)
+    following {us} {s'} (Ok (progress.Running q)) calls =
         let at : q.limit ≡ limit = calls.6 ∙ (start refl calls.3).at in
-        subst (λ l. Follows table k h limit s ts (fate.Running (record { count = q.count; limit = l })) us s') (sym at)
+        subst (λ l. Follows table k h limit s ts (Ok (progress.Running (record { count = q.count; limit = l }))) us s') (sym at)
         (board_followed calls.0 calls.2 calls.3 calls.4 calls.5)
-    following (fate.Ended e) calls = board_followed calls.0 calls.2 calls.3 calls.4 calls.5
+    following (Ok (progress.Ended e)) calls = board_followed calls.0 calls.2 calls.3 calls.4 calls.5
 
   pub history : {s s' : Configuration} {ts us : List Turn} {r : Fate} → Follows table k h limit s ts r us s' →
       IfBegun r s' (History table k h limit (cells_of s) (used us))

@@ -9,7 +9,7 @@ use Rattle.runs.specs.Histories.{GoesThrough, rests, goes_on}
 use Rattle.machine.specs.declared.run.Progress.{Progress}
 use Rattle.machine.specs.declared.run.Progress.TheVariants as progress
 use Rattle.machine.specs.States.{board_of, limit_of}
-use Rattle.history.specs.declared.board.Turn.{Turn}
+use Rattle.history.specs.declared.turn.Turn.{Turn}
 use Rattle.history.specs.Turns.{served_as, seen_of, is_used, used, TakesTurn, TakesTurns, no_more, one_more}
 use Rattle.history.proofs.Lists.{all_done, one_done, one_left}
 

@@ -3,9 +3,9 @@ use Rattle.std.specs.Prelude.{◌≡◌, ℕ, Bool, true, false, cond, List, [],
 use Rattle.rows.specs.Rows.{row_at}
 use Rattle.semantics.specs.Cuts.{largest_slice}
 use Rattle.runs.specs.Slices.{Board, running, ended, GoesOn}
-use Rattle.history.specs.declared.board.Seen.{Seen}
-use Rattle.history.specs.declared.board.Seen.TheVariants as seen
-use Rattle.history.specs.declared.board.Turn.{Turn}
+use Rattle.history.specs.declared.turn.Seen.{Seen}
+use Rattle.history.specs.declared.turn.Seen.TheVariants as seen
+use Rattle.history.specs.declared.turn.Turn.{Turn}
 
 -- what is seen of a slice that was served, and has come to that board
 abbrev pub served_as : Board → Seen

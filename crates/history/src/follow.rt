@@ -2,22 +2,23 @@
 ghost use Rattle.std.specs.Prelude.{◌≡◌};
 ghost use Rattle.stack.specs.Contents.{places};
 ghost use Rattle.table.specs.Places.{table_of};
-ghost use Rattle.transition.specs.Exchanges.{room};
-ghost use Rattle.transition.specs.Steps.{configuration};
+ghost use Rattle.transition.specs.Steps.{Keeps, configuration};
 ghost use Rattle.runs.specs.Histories.{History};
 ghost use Rattle.runs.specs.Promise.{Kept};
 ghost use Rattle.machine.specs.States.{board_of, limit_of};
 ghost use Rattle.history.specs.Turns.{unused, used, TakesTurn, TakesTurns};
 ghost use Rattle.history.specs.Plans.{Calls, Follows, IfBegun};
 
-use crate::board::{Fate, Seen, Turn};
+use crate::turn::{Seen, Turn};
 use machine::run::begin::begin;
 use machine::run::go_on::go_on;
-use machine::run::{Progress, Running, TurnedDown};
-use semantics::item::{Control, Item};
-use stack::stack::Stack;
+use machine::run::{BeginRefusal, Progress, Running, TurnedDown};
 use store::store::Store;
 use table::program::Program;
+use transition::machine::Machine;
+
+/// What became of a board: the run that it has come to, or why none was begun.
+pub type Fate = Result<Progress, BeginRefusal>;
 
 // One turn of a board that was begun. Once its run has ended, it has no use for a turn, and its limit
 // no longer matters: the contract then says 0.
@@ -25,14 +26,11 @@ fn take_turn<S: Store>(
     progress: Progress,
     turn: &mut Turn,
     program: &Program<'_>,
-    control: &mut Stack<'_, Control>,
-    results: &mut Stack<'_, Item>,
-    store: &mut S,
+    machine: &mut Machine<'_, S>,
 ) -> Progress
-    ensures takes { TakesTurn (table_of program.now) (places control.old) (places results.old) (limit_of 0 progress) (board_of progress (configuration control.old results.old (S.cells store.old))) turn.old turn.new (board_of result (configuration control.new results.new (S.cells store.new))) }
+    ensures takes { TakesTurn (table_of program.now) (places machine.old.stacks.control) (places machine.old.stacks.results) (limit_of 0 progress) (board_of progress (configuration S.cells machine.old)) turn.old turn.new (board_of result (configuration S.cells machine.new)) }
     ensures limit { limit_of (limit_of 0 progress) result ≡ limit_of 0 progress }
-    ensures places { room control.new results.new ≡ room control.old results.old }
-    ensures keeps { S.rests store.new ≡ S.rests store.old }
+    ensures keeps { Keeps S.rests machine.old machine.new }
 {
     match progress {
         Progress::Ended(ended) => {
@@ -40,7 +38,7 @@ fn take_turn<S: Store>(
             Progress::Ended(ended)
         }
         Progress::Running(running) => {
-            match go_on(running, program, control, results, store, turn.slice) {
+            match go_on(running, program, machine, turn.slice) {
                 Ok(Progress::Running(running)) => {
                     turn.seen = Seen::Running(running.count());
                     Progress::Running(running)
@@ -63,18 +61,15 @@ fn take_turns<S: Store>(
     running: Running,
     turns: &mut [Turn],
     program: &Program<'_>,
-    control: &mut Stack<'_, Control>,
-    results: &mut Stack<'_, Item>,
-    store: &mut S,
+    machine: &mut Machine<'_, S>,
 ) -> Progress
-    ensures takes { TakesTurns (table_of program.now) (places control.old) (places results.old) running.limit (board_of (Progress.Running running) (configuration control.old results.old (S.cells store.old))) turns.old turns.new (board_of result (configuration control.new results.new (S.cells store.new))) }
+    ensures takes { TakesTurns (table_of program.now) (places machine.old.stacks.control) (places machine.old.stacks.results) running.limit (board_of (Progress.Running running) (configuration S.cells machine.old)) turns.old turns.new (board_of result (configuration S.cells machine.new)) }
     ensures limit { limit_of running.limit result ≡ running.limit }
-    ensures places { room control.new results.new ≡ room control.old results.old }
-    ensures keeps { S.rests store.new ≡ S.rests store.old }
+    ensures keeps { Keeps S.rests machine.old machine.new }
 {
     let mut progress = Progress::Running(running);
     for turn in turns.iter_mut() {
-        progress = take_turn(progress, turn, program, control, results, store);
+        progress = take_turn(progress, turn, program, machine);
     }
     progress
 }
@@ -92,45 +87,36 @@ fn pass_over(turns: &mut [Turn])
 // to.
 fn carry_out<S: Store>(
     program: &Program<'_>,
-    control: &mut Stack<'_, Control>,
-    results: &mut Stack<'_, Item>,
-    store: &mut S,
+    machine: &mut Machine<'_, S>,
     limit: u32,
     turns: &mut [Turn],
 ) -> Fate
-    ensures calls { Calls (table_of program.now) (places control.old) (places results.old) limit (configuration control.old results.old (S.cells store.old)) turns.old result turns.new (configuration control.new results.new (S.cells store.new)) }
-    ensures places { room control.new results.new ≡ room control.old results.old }
-    ensures keeps { S.rests store.new ≡ S.rests store.old }
+    ensures calls { Calls (table_of program.now) (places machine.old.stacks.control) (places machine.old.stacks.results) limit (configuration S.cells machine.old) turns.old result turns.new (configuration S.cells machine.new) }
+    ensures keeps { Keeps S.rests machine.old machine.new }
 {
-    match begin(program, control, results, &*store, limit) {
+    match begin(program, machine, limit) {
         Err(no) => {
             pass_over(turns);
-            Fate::Refused(no)
+            Err(no)
         }
-        Ok(running) => match take_turns(running, turns, program, control, results, store) {
-            Progress::Running(running) => Fate::Running(running),
-            Progress::Ended(ended) => Fate::Ended(ended),
-        },
+        Ok(running) => Ok(take_turns(running, turns, program, machine)),
     }
 }
 
 /// Begins a run of the program, and goes on with it by the slices of the turns, in their order.
 ///
 /// Each turn says then what became of it. The turns after the end are not used, and where the run is
-/// not begun, none is.
+/// not begun, none is. A run that has not ended is handed back, so it cannot be let go unseen.
 pub fn follow<S: Store>(
     program: &Program<'_>,
-    control: &mut Stack<'_, Control>,
-    results: &mut Stack<'_, Item>,
-    store: &mut S,
+    machine: &mut Machine<'_, S>,
     limit: u32,
     turns: &mut [Turn],
 ) -> Fate
-    ensures follows { Follows (table_of program.now) (places control.old) (places results.old) limit (configuration control.old results.old (S.cells store.old)) turns.old result turns.new (configuration control.new results.new (S.cells store.new)) }
-    ensures places { room control.new results.new ≡ room control.old results.old }
-    ensures keeps { S.rests store.new ≡ S.rests store.old }
-    ensures history { IfBegun result (configuration control.new results.new (S.cells store.new)) (History (table_of program.now) (places control.old) (places results.old) limit (S.cells store.old) (used turns.new)) }
-    ensures kept { IfBegun result (configuration control.new results.new (S.cells store.new)) (Kept (table_of program.now) (S.cells store.old) limit (used turns.new)) }
+    ensures follows { Follows (table_of program.now) (places machine.old.stacks.control) (places machine.old.stacks.results) limit (configuration S.cells machine.old) turns.old result turns.new (configuration S.cells machine.new) }
+    ensures keeps { Keeps S.rests machine.old machine.new }
+    ensures history { IfBegun result (configuration S.cells machine.new) (History (table_of program.now) (places machine.old.stacks.control) (places machine.old.stacks.results) limit (S.cells machine.old.store) (used turns.new)) }
+    ensures kept { IfBegun result (configuration S.cells machine.new) (Kept (table_of program.now) (S.cells machine.old.store) limit (used turns.new)) }
 {
-    carry_out(program, control, results, store, limit, turns)
+    carry_out(program, machine, limit, turns)
 }

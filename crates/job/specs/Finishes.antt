@@ -3,7 +3,6 @@ use Rattle.std.specs.Prelude.{◌≡◌, ℕ, max, List, [], ℤ, Some, None, ve
 use Rattle.std.specs.List.{ContainsAt as Has, AllByRecursion}
 use Rattle.cells.specs.declared.cell.Cell.{Cell}
 use Rattle.cells.specs.declared.cell.Cell.TheVariants.{Unknown, Known}
-use Rattle.cells.specs.declared.cell.Content.TheVariants.{Number}
 use Rattle.cells.specs.Cells.{widest}
 use Rattle.job_line.specs.declared.board_line.BoardLine.{BoardLine}
 use Rattle.job_line.specs.declared.make.Make.TheVariants.{Pairs}
@@ -15,7 +14,7 @@ use Rattle.job.specs.Drafts.{State}
 -- a pair list can hold the cell: where there is one it is free, set, and takes every number
 abbrev pub Fit : Cell → Type 0
 Fit Unknown = Unit {0}
-Fit (Known h) = (n : ℤ) × (h ≡ widest (Number n))
+Fit (Known h) = (n : ℤ) × (h ≡ widest (Some n))
 
 -- a board of pairs asks that for all cells, and no other board asks anything
 abbrev pub Suits : List Cell → BoardLine → Type 0

@@ -7,7 +7,7 @@ ghost use Rattle.job.specs.Finishes.{Fit, Suits, Unsuited, Finishes, Unfinished}
 use crate::bad_line::BadLine;
 use crate::draft::Draft;
 use crate::job::Job;
-use cells::cell::{Cell, Content, KnownCell};
+use cells::cell::{Cell, KnownCell};
 use job_line::board_line::BoardLine;
 use job_line::make::Make;
 use job_line::wrong::Wrong;
@@ -19,8 +19,8 @@ fn is_fit(cell: Cell) -> bool
     match cell {
         Cell::Unknown => true,
         Cell::Known(known) => match known.content {
-            Content::Unset => false,
-            Content::Number(_) => known == KnownCell::widest(known.content),
+            None => false,
+            Some(_) => known == KnownCell::widest(known.content),
         },
     }
 }

@@ -1,9 +1,7 @@
 -- The cell that the words of a line write.
-use Rattle.std.specs.Prelude.{◌≡◌, ℕ, true, false, List, [], length, codes, int_le, slice_index_or}
+use Rattle.std.specs.Prelude.{◌≡◌, ℕ, true, false, List, [], length, codes, int_le, slice_index_or, Option, Some, None, ℤ}
 use Rattle.cells.specs.declared.cell.Mark.{Mark}
 use Rattle.cells.specs.declared.cell.Mark.TheVariants.{Free, Fixed}
-use Rattle.cells.specs.declared.cell.Content.{Content}
-use Rattle.cells.specs.declared.cell.Content.TheVariants.{Unset, Number}
 use Rattle.cells.specs.declared.cell.KnownCell.{KnownCell}
 use Rattle.cells.specs.Cells.{content_within}
 use Rattle.fields.specs.Integers.{Integer, integer_of}
@@ -25,13 +23,13 @@ pub record NoMark (w : List ℕ) (e : Wrong) : Type 0 where
   pub told : e ≡ NotMark
   pub none : (m : Mark) → WritesMark w m → ⊥
 
-abbrev pub WritesContent : List ℕ → Content → Type 0
-WritesContent w Unset = w ≡ codes "unset"
-WritesContent w (Number n) = Integer w × (n ≡ integer_of w)
+abbrev pub WritesContent : List ℕ → Option ℤ → Type 0
+WritesContent w None = w ≡ codes "unset"
+WritesContent w (Some n) = Integer w × (n ≡ integer_of w)
 
 pub record NoContent (w : List ℕ) (e : Wrong) : Type 0 where
   pub told : e ≡ NotContent
-  pub none : (v : Content) → WritesContent w v → ⊥
+  pub none : (v : Option ℤ) → WritesContent w v → ⊥
 
 -- the limits are in order, and the content lies within them
 pub record Lawful (c : KnownCell) : Type 0 where

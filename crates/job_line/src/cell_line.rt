@@ -12,7 +12,7 @@ use crate::make::byte_of;
 use crate::split::spells;
 use crate::words::exactly;
 use crate::wrong::Wrong;
-use cells::cell::{Content, KnownCell, Mark};
+use cells::cell::{KnownCell, Mark};
 use fields::signed::signed;
 
 fn location_of(word: &[u8]) -> Result<u8, Wrong>
@@ -45,14 +45,14 @@ fn mark_of(word: &[u8]) -> Result<Mark, Wrong>
     }
 }
 
-fn content_of(word: &[u8]) -> Result<Content, Wrong>
+fn content_of(word: &[u8]) -> Result<Option<i32>, Wrong>
     ensures { MatchResult result (WritesContent word.now) (NoContent word.now) }
 {
     if spells(word, "unset") {
-        return Ok(Content::Unset);
+        return Ok(None);
     }
     match signed(word) {
-        Some(number) => Ok(Content::Number(number)),
+        Some(number) => Ok(Some(number)),
         None => Err(Wrong::NotContent),
     }
 }
@@ -80,7 +80,7 @@ fn lawful(cell: KnownCell) -> Result<(), Wrong>
         return Err(Wrong::LimitsCross);
     }
     match cell.content {
-        Content::Number(number) if !cell.within(number) => Err(Wrong::OutsideLimits),
+        Some(number) if !cell.within(number) => Err(Wrong::OutsideLimits),
         _ => Ok(()),
     }
 }

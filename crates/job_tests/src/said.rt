@@ -1,5 +1,5 @@
 // Jobs that are read, and what they say.
-use cells::cell::{Cell, Content, KnownCell, Mark};
+use cells::cell::{Cell, KnownCell, Mark};
 use job::Make;
 use job::read::read;
 use std::test::Fail;
@@ -24,15 +24,12 @@ fn parts(rt: HostRuntime) -> Result<(), Fail> {
     assert_eq!(rt; job.limit, 1_000_000);
     assert!(rt; job.table.as_slice() == [0, 1, 0, 0, 8, 2, 0, 0, 4_294_967_295].as_slice());
     assert_eq!(rt; job.cells[0], Cell::Unknown);
-    assert_eq!(rt;
-        job.cells[255],
-        Cell::Known(KnownCell::widest(Content::Number(-7)))
-    );
+    assert_eq!(rt; job.cells[255], Cell::Known(KnownCell::widest(Some(-7))));
     let fixed = KnownCell {
         lowest: -5,
         highest: 5,
         mark: Mark::Fixed,
-        content: Content::Unset,
+        content: None,
     };
     assert_eq!(rt; job.cells[1], Cell::Known(fixed));
     assert_eq!(rt; job.boards.len(), 3);

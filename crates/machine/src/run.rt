@@ -88,6 +88,7 @@ impl Ended {
 }
 
 /// What a slice that was served has come to.
+// No `Result`: a run that has ended has not failed, and neither state is the other's error.
 pub enum Progress {
     Running(Running),
     Ended(Ended),

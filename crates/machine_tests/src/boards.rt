@@ -1,5 +1,5 @@
 // Small programs, cells and runs for the examples.
-use cells::cell::{Content, KnownCell, Mark};
+use cells::cell::{KnownCell, Mark};
 use machine::run::begin::begin;
 use machine::run::go_on::go_on;
 use machine::run::{Progress, Running, TurnedDown};
@@ -20,7 +20,7 @@ pub const SPIN: [u32; 12] = [3, 1, 0, 0, 7, 0, 0, 0, 11, 0, 1, 0];
 
 /// Free, unset and of the widest limits.
 pub fn plain() -> Record {
-    Record::new(KnownCell::widest(Content::Unset))
+    Record::new(KnownCell::widest(None))
 }
 
 /// From 0 to 6, holding 5, fixed or free.
@@ -29,7 +29,7 @@ pub fn narrow(mark: Mark) -> Record {
         lowest: 0,
         highest: 6,
         mark,
-        content: Content::Number(5),
+        content: Some(5),
     })
 }
 

@@ -2,7 +2,6 @@
 use Rattle.std.proofs.Common.{◌≡◌, ℕ, suc, ◌+◌, ◌<◌, ◌≤◌, Bool, true, false, cond, ltb, List, [], ◌∷◌, length, get_or, drop, set, ℤ, pos, negsuc, Some, None, Option, sym, refl, ap, ◌∙◌, subst, inl, inr, arith, length-drop, drop-cons, get_or-set_other, get_or-set_same, eq-eqb}
 use Rattle.std.proofs.lemmas.Bool.Decides.{eqb_tells, nat_tests}
 use Rattle.std.specs.Option.{option_map}
-use Rattle.cells.specs.declared.cell.Content.TheVariants.{Number}
 use Rattle.cells.specs.declared.cell.Cell.TheVariants.{Unknown, Known}
 use Rattle.cells.specs.Cells.{within, widest, with_content, known_if}
 use Rattle.pair_list.specs.Pairs.{names, place, listed, cell_at, pair_cells, words_after}
@@ -142,7 +141,7 @@ module _ (l : ℕ) (n : ℤ) (k : ℕ) where
   place_kept (a ∷ []) i e = let z : ◌≡◌ {A = ℕ} 0 1 = cc in let none : ⊥ = omega arith in absurd none
   place_kept (a ∷ m ∷ ws) i e = kept_if (names a l) a m ws (place ws l) (place_kept ws) i e
 
-written_if : (b : Bool) (m n : ℤ) → accepts (known_if b (Known (widest (Number m)))) n ≡ true → listed n ≡ with_content (known_if b (Known (widest (Number m)))) (Number n)
+written_if : (b : Bool) (m n : ℤ) → accepts (known_if b (Known (widest (Some m)))) n ≡ true → listed n ≡ with_content (known_if b (Known (widest (Some m)))) (Some n)
 written_if true m n e = rw e
 written_if false m n e = cc
 
@@ -158,7 +157,7 @@ module _ (ws : List ℤ) (l i : ℕ) (at : place ws l ≡ Some i) where
       located (λ k. cell_at (set ws i n) (place (set ws i n) k)) l small
       ∙ ap (cell_at (set ws i n)) (place_kept l n l ws i at ∙ at)
       ∙ ap listed (get_or-set_same ws i n (pos 0) (place_inside l ws i at))
-      ∙ written_if (within (widest (Number m)) m) m n granted
+      ∙ written_if (within (widest (Some m)) m) m n granted
       ∙ sym (left_accepted (listed m) n granted)
       ∙ ap (λ c. put_left c n) (sym is)
 

@@ -1,7 +1,6 @@
 -- The pair list: the cells that a list of words stands for, a location and then its number, and what a put does to the words.
 use Rattle.std.specs.Prelude.{◌≡◌, ℕ, suc, Bool, true, false, cond, List, [], ◌∷◌, get_or, ℤ, pos, negsuc, Some, None, Option, ◌==◌, slice_index_or, slice_set, refl}
 use Rattle.std.specs.Option.{option_map}
-use Rattle.cells.specs.declared.cell.Content.TheVariants.{Number}
 use Rattle.cells.specs.declared.cell.KnownCell.{KnownCell}
 use Rattle.cells.specs.declared.cell.Cell.{Cell}
 use Rattle.cells.specs.declared.cell.Cell.TheVariants.{Unknown, Known}
@@ -23,7 +22,7 @@ place (a ∷ n ∷ ws) k = cond (names a k) (Some 1) (option_map (λ i. suc (suc
 
 -- the cell of a number that is listed: free, set, and of the widest limits, within which every word lies
 abbrev pub listed : ℤ → Cell
-listed n = known_if (within (widest (Number n)) n) (Known (widest (Number n)))
+listed n = known_if (within (widest (Some n)) n) (Known (widest (Some n)))
 
 abbrev pub cell_at : List ℤ → Option ℕ → Cell
 cell_at ws None = Unknown
@@ -50,7 +49,7 @@ at_lawful : (ws : List ℤ) (o : Option ℕ) → Lawful (cell_at ws o)
 at_lawful ws None = tt
 at_lawful ws (Some i) =
     let n = get_or ws i (pos 0) in
-    if_within (within (widest (Number n)) n) (widest (Number n)) (λ e. e)
+    if_within (within (widest (Some n)) n) (widest (Some n)) (λ e. e)
 
 pub pair_lawful : (ws : List ℤ) (k : ℕ) → Lawful (pair_cells ws k)
 pair_lawful ws k = located_lawful (λ i. cell_at ws (place ws i)) k (at_lawful ws (place ws k))

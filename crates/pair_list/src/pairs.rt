@@ -4,7 +4,7 @@ ghost use Rattle.std.specs.Prelude.{◌≡◌, ℕ, ◌<◌, length, IfSome, ◌
 ghost use Rattle.pair_list.specs.Pairs.{place, listed, pair_cells, pair_lawful, pair_bounded, words_after};
 ghost use Rattle.cells.specs.Putting.{put_answer, put_left};
 
-use cells::cell::{Cell, Content, KnownCell};
+use cells::cell::{Cell, KnownCell};
 use cells::fault::StoreFault;
 use store::store::Store;
 
@@ -60,7 +60,7 @@ fn place_in(words: &[i32], location: u8) -> Option<usize>
 fn listed(number: i32) -> Cell
     ensures { result ≡ listed number }
 {
-    Cell::Known(KnownCell::widest(Content::Number(number)))
+    Cell::Known(KnownCell::widest(Some(number)))
 }
 
 impl Store for PairList<'_> {

@@ -1,8 +1,10 @@
 // How a run ends.
 ghost use Rattle.std.specs.Prelude.{◌≡◌};
+ghost use Rattle.runs.specs.declared.end.Stop.TheVariants.{Stuck};
 ghost use Rattle.runs.specs.Ends.{stop_number, stop_row, stop_location, end_number, end_row, end_location};
 
 use semantics::fault::Fault;
+use stack::stack::NoRoom;
 
 /// Why a transition is not made.
 #[derive(Clone, Copy, PartialEq, Eq, Debug)]
@@ -11,6 +13,14 @@ pub enum Stop {
     Stuck,
     /// A rule fits, but a number stands against it.
     Fault(Fault),
+}
+
+impl From<NoRoom> for Stop {
+    ghost from_gives = { λ _ r. r ≡ Stuck };
+
+    fn from(_e: NoRoom) -> Stop {
+        Stop::Stuck
+    }
 }
 
 impl Stop {

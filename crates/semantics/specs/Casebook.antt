@@ -1,7 +1,6 @@
 -- The twelve worked runs, and a few more for the faults that these do not show.
 use Rattle.std.specs.Prelude.{ℕ, List, [], ◌∷◌, pos, negsuc, Some, None, Option}
 use Rattle.cells.specs.declared.cell.Mark.TheVariants.{Free, Fixed}
-use Rattle.cells.specs.declared.cell.Content.TheVariants.{Number}
 use Rattle.cells.specs.declared.cell.Cell.{Cell}
 use Rattle.cells.specs.declared.cell.Cell.TheVariants.{Unknown, Known}
 use Rattle.cells.specs.Cells.{widest}
@@ -10,7 +9,7 @@ use Rattle.semantics.specs.Worked.{Case, Worked, Each}
 
 -- a cell that holds the number
 abbrev pub holding : ℕ → ℕ → ℕ × Cell
-holding l n = (l, Known (widest (Number (pos n))))
+holding l n = (l, Known (widest (Some (pos n))))
 
 abbrev pub needing : ℕ → ℕ → Option Needs
 needing k h = Some (record { control = k; results = h })
@@ -124,7 +123,7 @@ refused_runs =
     ∷ record { table = put_seven; start = (3, Unknown) ∷ []; limit = 1000000; end = 13; row = 1; location = 3; count = 2; left = []; needs = None }
     ∷ record {
       table = put_seven;
-      start = (3, Known (record { lowest = pos 0; highest = pos 6; mark = Fixed; content = Number (pos 5) })) ∷ [];
+      start = (3, Known (record { lowest = pos 0; highest = pos 6; mark = Fixed; content = Some (pos 5) })) ∷ [];
       limit = 1000000;
       end = 15;
       row = 1;
@@ -135,7 +134,7 @@ refused_runs =
     }
     ∷ record {
       table = put_seven;
-      start = (3, Known (record { lowest = pos 0; highest = pos 6; mark = Free; content = Number (pos 5) })) ∷ [];
+      start = (3, Known (record { lowest = pos 0; highest = pos 6; mark = Free; content = Some (pos 5) })) ∷ [];
       limit = 1000000;
       end = 16;
       row = 1;

@@ -1,6 +1,5 @@
 -- Runs worked through: what each is, and what it comes to by the natural rules.
-use Rattle.std.specs.Prelude.{◌≡◌, ℕ, ◌<◌, ◌≤◌, cond, List, [], ◌∷◌, ℤ, IfSome, Ok, Option, ◌==◌}
-use Rattle.cells.specs.declared.cell.Content.TheVariants.{Unset}
+use Rattle.std.specs.Prelude.{◌≡◌, ℕ, ◌<◌, ◌≤◌, cond, List, [], ◌∷◌, ℤ, IfSome, Ok, Option, ◌==◌, None}
 use Rattle.cells.specs.declared.cell.Cell.{Cell}
 use Rattle.cells.specs.declared.cell.Cell.TheVariants.{Known}
 use Rattle.cells.specs.Cells.{widest, at_locations}
@@ -30,7 +29,7 @@ pub record Case : Type 0 where
 
 -- plain cells are free, unset and of the widest limits
 abbrev pub cells_with : List (ℕ × Cell) → Cells
-cells_with [] = at_locations (λ k. Known (widest Unset))
+cells_with [] = at_locations (λ k. Known (widest None))
 cells_with (s ∷ ss) = λ k. cond (k == s.0) s.1 (cells_with ss k)
 
 abbrev pub Hold : Cells → List (ℕ × ℤ) → Type 0

@@ -1,8 +1,7 @@
 -- A put into a list of records.
-use Rattle.std.proofs.Common.{◌≡◌, ℕ, ◌<◌, ◌≤◌, Bool, true, false, ◌&&◌, List, length, get_or, set, ℤ, sym, ap, ◌∙◌, get_or-set_other, get_or-set_same}
+use Rattle.std.proofs.Common.{◌≡◌, ℕ, ◌<◌, ◌≤◌, Bool, true, false, ◌&&◌, List, length, get_or, set, ℤ, sym, ap, ◌∙◌, get_or-set_other, get_or-set_same, Some}
 use lib.Signed.{le_z}
 use Rattle.std.proofs.lemmas.List.{get_or_past}
-use Rattle.cells.specs.declared.cell.Content.TheVariants.{Number}
 use Rattle.cells.specs.declared.cell.KnownCell.{KnownCell}
 use Rattle.cells.specs.declared.cell.Mark.{Mark}
 use Rattle.cells.specs.declared.cell.Mark.TheVariants.{Free, Fixed}
@@ -22,12 +21,12 @@ inside Fixed b e = cc
 
 module _ (h : KnownCell) (n : ℤ) where
   numbered : Cell
-  numbered = Known (record { lowest = h.lowest; highest = h.highest; mark = h.mark; content = Number n })
+  numbered = Known (record { lowest = h.lowest; highest = h.highest; mark = h.mark; content = Some n })
 
   if_accepted :
       (a b f : Bool) →
       accepts (known_if a (known_if (b && f) (Known h))) n ≡ true →
-      known_if a (known_if (b && within h n) numbered) ≡ with_content (known_if a (known_if (b && f) (Known h))) (Number n)
+      known_if a (known_if (b && within h n) numbered) ≡ with_content (known_if a (known_if (b && f) (Known h))) (Some n)
   unfolding numbered
   if_accepted true true true e = rw (inside h.mark (within h n) e)
   if_accepted true true false e = cc

@@ -1,9 +1,7 @@
 -- The sheet: the cells that a list of records stands for, and what a put does to the records.
-use Rattle.std.specs.Prelude.{◌≡◌, ℕ, Bool, true, false, cond, ◌&&◌, List, ℤ, pos, int_le, slice_index_or, slice_set, refl}
+use Rattle.std.specs.Prelude.{◌≡◌, ℕ, Bool, true, false, cond, ◌&&◌, List, ℤ, pos, int_le, slice_index_or, slice_set, refl, Option, Some, None}
 use Rattle.cells.specs.declared.cell.Mark.{Mark}
 use Rattle.cells.specs.declared.cell.Mark.TheVariants.{Free, Fixed}
-use Rattle.cells.specs.declared.cell.Content.{Content}
-use Rattle.cells.specs.declared.cell.Content.TheVariants.{Unset, Number}
 use Rattle.cells.specs.declared.cell.KnownCell.{KnownCell}
 use Rattle.cells.specs.declared.cell.Cell.{Cell}
 use Rattle.cells.specs.declared.cell.Cell.TheVariants.{Known}
@@ -18,7 +16,7 @@ described r = record {
   lowest = r.lowest;
   highest = r.highest;
   mark = cond r.fixed Fixed Free;
-  content = cond r.set (Number r.number) Unset;
+  content = cond r.set (Some r.number) None;
 }
 
 -- the limits do not cross, and what is held lies within them
@@ -56,13 +54,13 @@ abbrev pub is_fixed : Mark → Bool
 is_fixed Free = false
 is_fixed Fixed = true
 
-abbrev pub is_set : Content → Bool
-is_set Unset = false
-is_set (Number n) = true
+abbrev pub is_set : Option ℤ → Bool
+is_set None = false
+is_set (Some n) = true
 
-abbrev pub number_in : Content → ℤ
-number_in Unset = pos 0
-number_in (Number n) = n
+abbrev pub number_in : Option ℤ → ℤ
+number_in None = pos 0
+number_in (Some n) = n
 
 abbrev pub record_of : KnownCell → Record
 record_of h =

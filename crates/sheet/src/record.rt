@@ -2,7 +2,7 @@
 ghost use Rattle.std.specs.Prelude.{◌≡◌};
 ghost use Rattle.sheet.specs.Sheets.{cell_of, blank, record_of, with_number, sound};
 
-use cells::cell::{Cell, Content, KnownCell, Mark};
+use cells::cell::{Cell, KnownCell, Mark};
 
 /// A cell's record. Its number counts only where `set` is marked.
 #[derive(Clone, Copy, PartialEq, Eq, Debug)]
@@ -36,8 +36,8 @@ impl Record {
         ensures stands { cell_of result ≡ sound cell }
     {
         let (set, number) = match cell.content {
-            Content::Unset => (false, 0),
-            Content::Number(number) => (true, number),
+            None => (false, 0),
+            Some(number) => (true, number),
         };
         let fixed = match cell.mark {
             Mark::Free => false,
@@ -65,11 +65,7 @@ impl Record {
             lowest: self.lowest,
             highest: self.highest,
             mark: if self.fixed { Mark::Fixed } else { Mark::Free },
-            content: if self.set {
-                Content::Number(self.number)
-            } else {
-                Content::Unset
-            },
+            content: if self.set { Some(self.number) } else { None },
         };
         if self.set && !cell.within(self.number) {
             return Cell::Unknown;

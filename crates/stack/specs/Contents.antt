@@ -1,6 +1,12 @@
 -- What a stack holds, topmost first, and how many places it has.
-use Rattle.std.specs.Prelude.{ℕ, ◌+◌, Bool, ◌&&◌, List, [], ◌∷◌, length, drop, Some, None, Option, nat_le}
+use Rattle.std.specs.Prelude.{ℕ, ◌+◌, Bool, true, false, ◌&&◌, List, [], ◌∷◌, length, drop, Some, None, Option, Ok, Err, Result, nat_le}
 use Rattle.stack.specs.declared.stack.Stack.{Stack}
+use Rattle.stack.specs.declared.stack.NoRoom.{NoRoom}
+
+-- the answer of what is done only where there is room
+abbrev pub where_room : Bool → Result (Unit {0}) NoRoom
+where_room true = Ok tt
+where_room false = Err (record {})
 
 module _ {T : Type 0} where
   abbrev pub contents : Stack T → List T

@@ -1,1 +1,2 @@
-pub mod SideLemmas
+pub mod KnownLemmas
+pub mod Searches

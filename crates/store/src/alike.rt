@@ -10,11 +10,5 @@ pub fn alike<S: Store>(one: &S, other: &S) -> bool
     ensures decides { Decides result (EqualCells (S.cells one.now) (S.cells other.now)) }
     ensures same { result ≡ true → S.cells one.now ≡ S.cells other.now }
 {
-    for k in 0..256u16 {
-        let location = k as u8;
-        if one.tell(location) != other.tell(location) {
-            return false;
-        }
-    }
-    true
+    (0..=255u8).all(|location| one.tell(location) == other.tell(location))
 }

@@ -65,10 +65,10 @@ impl<S: Store> Store for Cover<S> {
     }
 
     fn put(&mut self, location: u8, number: i32) -> Result<(), StoreFault>
-        ensures answers { result ≡ put_answer (covered self.old.first self.old.last (S.Store.cells self.old.under) location) location number }
-        ensures writes { covered self.new.first self.new.last (S.Store.cells self.new.under) location ≡ put_left (covered self.old.first self.old.last (S.Store.cells self.old.under) location) number }
-        ensures spares { (k : ℕ) → (k ≢ location) → covered self.new.first self.new.last (S.Store.cells self.new.under) k ≡ covered self.old.first self.old.last (S.Store.cells self.old.under) k }
-        ensures keeps { ◌≡◌ {A = S.Store.Ground × ℕ × ℕ} (S.Store.rests self.new.under, self.new.first, self.new.last) (S.Store.rests self.old.under, self.old.first, self.old.last) }
+        ensures answers { result ≡ put_answer (⟦<Self as Store>⟧.cells self.old location) location number }
+        ensures writes { ⟦<Self as Store>⟧.cells self.new location ≡ put_left (⟦<Self as Store>⟧.cells self.old location) number }
+        ensures spares { (k : ℕ) → (k ≢ location) → ⟦<Self as Store>⟧.cells self.new k ≡ ⟦<Self as Store>⟧.cells self.old k }
+        ensures keeps { ⟦<Self as Store>⟧.rests self.new ≡ ⟦<Self as Store>⟧.rests self.old }
         ensures frames { (k : ℕ) → S.Store.cells self.new.under k ≡ under_after self.old.first self.old.last (S.Store.cells self.old.under) location number k }
     {
         if self.covers(location) {

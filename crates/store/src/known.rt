@@ -10,25 +10,21 @@ use cells::cell::{Cell, KnownCell};
 pub fn known_from<S: Store>(store: &S, from: u16) -> Option<(u8, KnownCell)>
     ensures { NextKnown (S.cells store.now) from result }
 {
-    for k in from..256 {
+    (from..256).find_map(|k| {
         let location = k as u8;
-        if let Cell::Known(cell) = store.tell(location) {
-            return Some((location, cell));
+        match store.tell(location) {
+            Cell::Known(cell) => Some((location, cell)),
+            Cell::Unknown => None,
         }
-    }
-    None
+    })
 }
 
 /// The known cells of a store, each with its location, from the lowest up.
+// `from` is one number, since `known_from` begins there anew and what the walk promises is told of it.
+#[derive(Drop)]
 pub struct KnownCells<'a, S> {
     store: &'a S,
     from: u16,
-}
-
-impl<S> Drop for KnownCells<'_, S> {
-    fn drop(self) {
-        let KnownCells { store: _, from: _ } = self;
-    }
 }
 
 impl<'a, S: Store> KnownCells<'a, S> {
@@ -49,10 +45,7 @@ impl<S: Store> Iterator for KnownCells<'_, S> {
 
     fn next(&mut self) -> Option<(u8, KnownCell)> {
         let next = known_from(self.store, self.from);
-        self.from = match next {
-            Some((location, _)) => u16::from(location) + 1,
-            None => 256,
-        };
+        self.from = next.map_or(256, |(location, _)| u16::from(location) + 1);
         next
     }
 }

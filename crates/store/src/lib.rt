@@ -8,5 +8,5 @@ pub mod lent;
 pub mod neighbours;
 pub mod store;
 
-pub use cells::cell::{Cell, Content, KnownCell, Mark};
+pub use cells::cell::{Cell, KnownCell, Mark};
 pub use cells::fault::StoreFault;

@@ -57,19 +57,18 @@ impl<L: Store, R: Store> Store for Neighbours<L, R> {
     }
 
     fn put(&mut self, location: u8, number: i32) -> Result<(), StoreFault>
-        ensures answers { result ≡ put_answer (side_by_side self.old.split (L.Store.cells self.old.left) (R.Store.cells self.old.right) location) location number }
-        ensures writes { side_by_side self.new.split (L.Store.cells self.new.left) (R.Store.cells self.new.right) location ≡ put_left (side_by_side self.old.split (L.Store.cells self.old.left) (R.Store.cells self.old.right) location) number }
-        ensures spares { (k : ℕ) → (k ≢ location) → side_by_side self.new.split (L.Store.cells self.new.left) (R.Store.cells self.new.right) k ≡ side_by_side self.old.split (L.Store.cells self.old.left) (R.Store.cells self.old.right) k }
-        ensures keeps { ◌≡◌ {A = L.Store.Ground × R.Store.Ground × ℕ} (L.Store.rests self.new.left, R.Store.rests self.new.right, self.new.split) (L.Store.rests self.old.left, R.Store.rests self.old.right, self.old.split) }
+        ensures answers { result ≡ put_answer (⟦<Self as Store>⟧.cells self.old location) location number }
+        ensures writes { ⟦<Self as Store>⟧.cells self.new location ≡ put_left (⟦<Self as Store>⟧.cells self.old location) number }
+        ensures spares { (k : ℕ) → (k ≢ location) → ⟦<Self as Store>⟧.cells self.new k ≡ ⟦<Self as Store>⟧.cells self.old k }
+        ensures keeps { ⟦<Self as Store>⟧.rests self.new ≡ ⟦<Self as Store>⟧.rests self.old }
         ensures first { (k : ℕ) → L.Store.cells self.new.left k ≡ first_after self.old.split (L.Store.cells self.old.left) location number k }
         ensures second { (k : ℕ) → R.Store.cells self.new.right k ≡ second_after self.old.split (R.Store.cells self.old.right) location number k }
     {
         if location < self.split {
             return self.left.put(location, number);
         }
-        match self.right.put(location - self.split, number) {
-            Ok(()) => Ok(()),
-            Err(fault) => Err(fault.at(location)),
-        }
+        self.right
+            .put(location - self.split, number)
+            .map_err(|fault| fault.at(location))
     }
 }

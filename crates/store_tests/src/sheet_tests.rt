@@ -1,5 +1,5 @@
 // The sheet at its edges.
-use cells::cell::{Cell, Content, KnownCell, Mark};
+use cells::cell::{Cell, KnownCell, Mark};
 use cells::fault::StoreFault;
 use sheet::record::Record;
 use sheet::sheet::Sheet;
@@ -13,7 +13,7 @@ fn narrow() -> KnownCell {
         lowest: -3,
         highest: 3,
         mark: Mark::Free,
-        content: Content::Unset,
+        content: None,
     }
 }
 

@@ -1,4 +1,4 @@
-mod Assigns
+pub mod Kept
 mod Lifts
 mod Simulated
 mod Tries

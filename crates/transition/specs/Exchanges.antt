@@ -5,7 +5,6 @@ use Rattle.rows.specs.declared.row.Operator.{Operator}
 use Rattle.rows.specs.declared.row.Relation.{Relation}
 use Rattle.rows.specs.declared.row.Row.{Row}
 use Rattle.rows.specs.declared.row.Row.TheVariants as row
-use Rattle.stack.specs.declared.stack.Stack.{Stack}
 use Rattle.stack.specs.Contents.{contents, places, fits}
 use Rattle.semantics.specs.declared.arithmetic.ArithmeticFault.{ArithmeticFault}
 use Rattle.semantics.specs.declared.fault.Cause.TheVariants.{Store, Arithmetic}
@@ -19,7 +18,8 @@ use Rattle.semantics.specs.Faults.{fault_at}
 use Rattle.semantics.specs.Machine.{waiting}
 use Rattle.runs.specs.declared.end.Stop.{Stop}
 use Rattle.runs.specs.declared.end.Stop.TheVariants as stop
-use Rattle.transition.specs.Found.{numbers, truth, truths, decided}
+use Rattle.transition.specs.declared.pair.StackPair.{StackPair}
+use Rattle.transition.specs.Found.{as_number, as_truth, topmost, topmost_two, decided}
 
 -- what the two stacks hold, topmost first
 pub record Stacks : Type 0 where
@@ -36,11 +36,11 @@ pub data Outcome (A : Type 0) : Type 0 where
   went : A → Outcome A
   stopped : Stop → Outcome A
 
-abbrev pub stacks : Stack Control → Stack Item → Stacks
-stacks c r = record { control = contents c; results = contents r }
+abbrev pub stacks : StackPair → Stacks
+stacks s = record { control = contents s.control; results = contents s.results }
 
-abbrev pub room : Stack Control → Stack Item → Room
-room c r = record { control = places c; results = places r }
+abbrev pub room : StackPair → Room
+room s = record { control = places s.control; results = places s.results }
 
 module _ {A : Type 0} where
   abbrev pub answer : Outcome A → Result (Unit {0}) Stop
@@ -57,8 +57,8 @@ pub record Did {K A : Type 0} (o : Outcome A) (k k' : K) (s s' : A) (r : Result 
   pub leaves : s' ≡ after o s
   pub keeps : k' ≡ k
 
-abbrev pub Moved : (Room → Stacks → Outcome Stacks) → Stack Control → Stack Item → Stack Control → Stack Item → Result (Unit {0}) Stop → Type 0
-Moved f c r c' r' a = Did (f (room c r) (stacks c r)) (room c r) (room c' r') (stacks c r) (stacks c' r') a
+abbrev pub Moved : (Room → Stacks → Outcome Stacks) → StackPair → StackPair → Result (Unit {0}) Stop → Type 0
+Moved f s s' a = Did (f (room s) (stacks s)) (room s) (room s') (stacks s) (stacks s') a
 
 -- the topmost control item makes way for cs, and n results for rs, where there are so many and where these fit
 abbrev pub exchanged : Room → List Control → ℕ → List Item → Stacks → Outcome Stacks
@@ -106,11 +106,11 @@ whole_of k m p (row.Loop b x) s = wait_of k p b b x s
 
 abbrev pub arithmetic_of : Room → ℕ → Operator → Stacks → Outcome Stacks
 arithmetic_of k p o s =
-    found (numbers s.results) (λ yx. unless_impossible p (computed o yx.1 yx.0) (λ n. exchanged k [] 2 (item.Number n ∷ []) s))
+    found (topmost_two as_number s.results) (λ yx. unless_impossible p (computed o yx.1 yx.0) (λ n. exchanged k [] 2 (item.Number n ∷ []) s))
 
 abbrev pub comparison_of : Room → Relation → Stacks → Outcome Stacks
 comparison_of k o s =
-    found (numbers s.results) (λ yx. exchanged k [] 2 (item.Truth (compared o yx.1 yx.0) ∷ []) s)
+    found (topmost_two as_number s.results) (λ yx. exchanged k [] 2 (item.Truth (compared o yx.1 yx.0) ∷ []) s)
 
 abbrev pub choice_of : Room → ℕ → ℕ → Stacks → Outcome Stacks
 choice_of k x y s =
@@ -127,8 +127,8 @@ finish_of k p (row.Contents l) s = stopped stop.Stuck
 finish_of k p (row.Arithmetic o x y) s = arithmetic_of k p o s
 finish_of k p (row.Truth t) s = stopped stop.Stuck
 finish_of k p (row.Comparison o x y) s = comparison_of k o s
-finish_of k p (row.Not x) s = found (truth s.results) (λ t. exchanged k [] 1 (item.Truth (not t) ∷ []) s)
-finish_of k p (row.And x y) s = found (truths s.results) (λ yx. exchanged k [] 2 (item.Truth (yx.1 && yx.0) ∷ []) s)
+finish_of k p (row.Not x) s = found (topmost as_truth s.results) (λ t. exchanged k [] 1 (item.Truth (not t) ∷ []) s)
+finish_of k p (row.And x y) s = found (topmost_two as_truth s.results) (λ yx. exchanged k [] 2 (item.Truth (yx.1 && yx.0) ∷ []) s)
 finish_of k p row.Skip s = stopped stop.Stuck
 finish_of k p (row.Assignment l x) s = stopped stop.Stuck
 finish_of k p (row.Sequence x y) s = stopped stop.Stuck

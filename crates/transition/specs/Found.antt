@@ -13,44 +13,45 @@ abbrev pub first_if : {A B : Type 0} → (B → Bool) → Option (A × B) → Op
 first_if test None = None
 first_if test (Some ab) = cond (test ab.1) (Some ab.0) None
 
--- the topmost item, where it is of that kind
-abbrev pub number : List Item → Option ℤ
-number [] = None
-number (item.Number n ∷ r) = Some n
-number (item.Truth t ∷ r) = None
-number (item.Location l ∷ r) = None
-number (item.Row p ∷ r) = None
+-- the item, where it is of that kind
+abbrev pub as_number : Item → Option ℤ
+as_number (item.Number n) = Some n
+as_number (item.Truth t) = None
+as_number (item.Location l) = None
+as_number (item.Row p) = None
 
-abbrev pub truth : List Item → Option Bool
-truth [] = None
-truth (item.Number n ∷ r) = None
-truth (item.Truth t ∷ r) = Some t
-truth (item.Location l ∷ r) = None
-truth (item.Row p ∷ r) = None
+abbrev pub as_truth : Item → Option Bool
+as_truth (item.Number n) = None
+as_truth (item.Truth t) = Some t
+as_truth (item.Location l) = None
+as_truth (item.Row p) = None
 
-abbrev pub location : List Item → Option ℕ
-location [] = None
-location (item.Number n ∷ r) = None
-location (item.Truth t ∷ r) = None
-location (item.Location l ∷ r) = Some l
-location (item.Row p ∷ r) = None
+abbrev pub as_location : Item → Option ℕ
+as_location (item.Number n) = None
+as_location (item.Truth t) = None
+as_location (item.Location l) = Some l
+as_location (item.Row p) = None
 
-abbrev pub a_row : List Item → Option ℕ
-a_row [] = None
-a_row (item.Number n ∷ r) = None
-a_row (item.Truth t ∷ r) = None
-a_row (item.Location l ∷ r) = None
-a_row (item.Row p ∷ r) = Some p
+abbrev pub as_row : Item → Option ℕ
+as_row (item.Number n) = None
+as_row (item.Truth t) = None
+as_row (item.Location l) = None
+as_row (item.Row p) = Some p
 
-abbrev pub numbers : List Item → Option (ℤ × ℤ)
-numbers r = both (number r) (number (drop 1 r))
+-- the topmost item, where there is one and it is of the kind
+abbrev pub topmost : {A : Type 0} → (Item → Option A) → List Item → Option A
+topmost kind [] = None
+topmost kind (i ∷ r) = kind i
 
-abbrev pub truths : List Item → Option (Bool × Bool)
-truths r = both (truth r) (truth (drop 1 r))
+-- the two topmost, where both are
+abbrev pub topmost_two : {A : Type 0} → (Item → Option A) → List Item → Option (A × A)
+topmost_two kind r = both (topmost kind r) (topmost kind (drop 1 r))
 
 abbrev pub number_for : ℕ → List Item → Option ℤ
-number_for l r = first_if (λ k. nat_eq k l) (both (number r) (location (drop 1 r)))
+number_for l r = first_if (λ k. nat_eq k l) (both (topmost as_number r) (topmost as_location (drop 1 r)))
 
 -- the truth value of a condition, over the two rows that wait for it
 abbrev pub decided : ℕ → ℕ → List Item → Option Bool
-decided x y r = first_if (λ qs. (qs.0 == x) && qs.1 == y) (both (truth r) (both (a_row (drop 1 r)) (a_row (drop 2 r))))
+decided x y r =
+    first_if (λ qs. (qs.0 == x) && qs.1 == y)
+    (both (topmost as_truth r) (both (topmost as_row (drop 1 r)) (topmost as_row (drop 2 r))))

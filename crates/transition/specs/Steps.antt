@@ -1,21 +1,32 @@
 -- One transition of the whole machine, as the code looks for it. What it comes to is what the machine's rules say; see Tried.
-use Rattle.std.specs.Prelude.{ℕ, drop, Some, None, Option}
+use Rattle.std.specs.Prelude.{◌≡◌, ℕ, drop, Some, None, Option, Result}
 use Rattle.rows.specs.declared.row.Row.{Row}
 use Rattle.rows.specs.declared.row.Row.TheVariants as row
-use Rattle.stack.specs.declared.stack.Stack.{Stack}
 use Rattle.stack.specs.Contents.{contents, first}
 use Rattle.semantics.specs.declared.item.Control.{Control}
 use Rattle.semantics.specs.declared.item.Control.TheVariants.{Whole, Finish}
-use Rattle.semantics.specs.declared.item.Item.{Item}
 use Rattle.semantics.specs.Cells.{Cells, asked, written}
 use Rattle.semantics.specs.Machine.{Configuration, conf}
+use Rattle.runs.specs.declared.end.Stop.{Stop}
 use Rattle.runs.specs.declared.end.Stop.TheVariants as stop
+use Rattle.transition.specs.declared.machine.Machine.{Machine}
 use Rattle.transition.specs.Found.{number_for}
-use Rattle.transition.specs.Exchanges.{Stacks, Room, Outcome, went, stopped, found, unless_refused, whole_of, finish_of}
+use Rattle.transition.specs.Exchanges.{Stacks, Room, Outcome, went, stopped, found, unless_refused, whole_of, finish_of, room, Did}
 
--- the configuration of two stacks over the cells m
-abbrev pub configuration : Stack Control → Stack Item → Cells → Configuration
-configuration c r m = conf (contents c) (contents r) m
+module _ {S : Type 0} where
+  -- the configuration of a machine, for whose store these cells are
+  abbrev pub configuration : (S → Cells) → Machine S → Configuration
+  configuration cells m = conf (contents m.stacks.control) (contents m.stacks.results) (cells m.store)
+
+  -- what no call changes: the places of both stacks, and what the store rests on
+  pub record Keeps {G : Type 0} (rests : S → G) (m m' : Machine S) : Type 0 where
+    pub places : room m'.stacks ≡ room m.stacks
+    pub ground : rests m'.store ≡ rests m.store
+
+  -- the machine m has become m' as the outcome says
+  pub record Stepped {G : Type 0} (cells : S → Cells) (rests : S → G) (o : Outcome Configuration) (m m' : Machine S) (r : Result (Unit {0}) Stop) : Type 0 where
+    pub did : Did o (room m.stacks) (room m'.stacks) (configuration cells m) (configuration cells m') r
+    pub keeps : rests m'.store ≡ rests m.store
 
 abbrev pub over : Cells → Stacks → Configuration
 over m s = conf s.control s.results m

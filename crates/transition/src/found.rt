@@ -1,46 +1,61 @@
 // What a row's own operator finds on top of the results, where it finds what it should.
-ghost use Rattle.std.specs.Prelude.{◌≡◌, ◌≤◌, length, OnSome};
-ghost use Rattle.transition.specs.Found.{numbers, truth, truths, number_for, decided};
+ghost use Rattle.std.specs.Prelude.{◌≡◌, Option};
+ghost use Rattle.semantics.specs.declared.item.Item.{Item};
+ghost use Rattle.transition.specs.Found.{as_number, as_truth, topmost, topmost_two, number_for, decided};
 
 use semantics::item::Item;
 
-/// The right number, then the left.
-pub fn two_numbers(items: &[Item]) -> Option<(i32, i32)>
-    ensures value { result ≡ numbers items.now }
-    ensures long { OnSome result (2 ≤ length items.now) }
-{
-    match items {
-        [Item::Number(y), Item::Number(x), ..] => Some((*y, *x)),
-        _ => None,
+/// What an operator computes with.
+pub trait Operand: Copy {
+    /// The operand that an item is, if it is one of this type.
+    ghost taken: { Item → Option Self };
+
+    fn of_item(item: Item) -> Option<Self>
+        ensures { result ≡ taken item };
+}
+
+impl Operand for i32 {
+    ghost taken = { as_number };
+
+    fn of_item(item: Item) -> Option<i32> {
+        match item {
+            Item::Number(n) => Some(n),
+            _ => None,
+        }
     }
 }
 
-/// A truth value.
-pub fn one_truth(items: &[Item]) -> Option<bool>
-    ensures value { result ≡ truth items.now }
-    ensures long { OnSome result (1 ≤ length items.now) }
-{
-    match items {
-        [Item::Truth(x), ..] => Some(*x),
-        _ => None,
+impl Operand for bool {
+    ghost taken = { as_truth };
+
+    fn of_item(item: Item) -> Option<bool> {
+        match item {
+            Item::Truth(t) => Some(t),
+            _ => None,
+        }
     }
 }
 
-/// The right truth value, then the left.
-pub fn two_truths(items: &[Item]) -> Option<(bool, bool)>
-    ensures value { result ≡ truths items.now }
-    ensures long { OnSome result (2 ≤ length items.now) }
+/// The topmost operand.
+pub fn one<V: Operand>(items: &[Item]) -> Option<V>
+    ensures { result ≡ topmost V.taken items.now }
+{
+    V::of_item(*items.first()?)
+}
+
+/// The right operand, then the left.
+pub fn two<V: Operand>(items: &[Item]) -> Option<(V, V)>
+    ensures { result ≡ topmost_two V.taken items.now }
 {
     match items {
-        [Item::Truth(y), Item::Truth(x), ..] => Some((*y, *x)),
+        [right, left, ..] => Some((V::of_item(*right)?, V::of_item(*left)?)),
         _ => None,
     }
 }
 
 /// The number that is to be put at the location.
 pub fn number_for(location: u8, items: &[Item]) -> Option<i32>
-    ensures value { result ≡ number_for location items.now }
-    ensures long { OnSome result (2 ≤ length items.now) }
+    ensures { result ≡ number_for location items.now }
 {
     match items {
         [Item::Number(n), Item::Location(l), ..] if *l == location => Some(*n),
@@ -50,8 +65,7 @@ pub fn number_for(location: u8, items: &[Item]) -> Option<i32>
 
 /// The truth value of a condition, with the rows that wait for it.
 pub fn decided(x: u32, y: u32, items: &[Item]) -> Option<bool>
-    ensures value { result ≡ decided x y items.now }
-    ensures long { OnSome result (3 ≤ length items.now) }
+    ensures { result ≡ decided x y items.now }
 {
     match items {
         [Item::Truth(t), Item::Row(q), Item::Row(s), ..] if *q == x && *s == y => Some(*t),

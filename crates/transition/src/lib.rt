@@ -1,8 +1,9 @@
 // One transition of the row machine, over any store.
 #![tactic(auto)]
 
-mod exchange;
 mod finish;
 mod found;
+pub mod machine;
+pub mod pair;
 pub mod step;
 mod whole;

@@ -5,51 +5,38 @@ ghost use Rattle.table.specs.Places.{table_of};
 ghost use Rattle.stack.specs.Contents.{places};
 ghost use Rattle.runs.specs.Tries.{Tried};
 ghost use Rattle.runs.specs.Simp.{AsSimp};
-ghost use Rattle.transition.specs.Exchanges.{Did, room, stacks};
-ghost use Rattle.transition.specs.Steps.{configuration, step_of};
+ghost use Rattle.transition.specs.Exchanges.{stacks, room};
+ghost use Rattle.transition.specs.Steps.{Keeps, Stepped, configuration, step_of};
 
-use crate::finish::finish;
-use crate::whole::whole;
+use crate::machine::Machine;
 use runs::end::Stop;
-use semantics::item::{Control, Item};
-use stack::stack::Stack;
+use semantics::item::Control;
 use store::store::Store;
 use table::program::Program;
 
-// The transition, if there is one.
-fn attempt<S: Store>(
-    program: &Program<'_>,
-    control: &mut Stack<'_, Control>,
-    results: &mut Stack<'_, Item>,
-    store: &mut S,
-) -> Result<(), Stop>
-    ensures did { Did (step_of (room control.old results.old) (row_at (table_of program.now)) (S.cells store.old) (stacks control.old results.old)) (room control.old results.old) (room control.new results.new) (configuration control.old results.old (S.cells store.old)) (configuration control.new results.new (S.cells store.new)) result }
-    ensures keeps { S.rests store.new ≡ S.rests store.old }
-{
-    match control.top() {
-        None => Err(Stop::Stuck),
-        Some(Control::Whole(p)) => match program.row(p) {
-            None => Err(Stop::Stuck),
-            Some(row) => whole(p, row, control, results, &*store),
-        },
-        Some(Control::Finish(p)) => match program.row(p) {
-            None => Err(Stop::Stuck),
-            Some(row) => finish(p, row, control, results, store),
-        },
+impl<S: Store> Machine<'_, S> {
+    // The transition, if there is one.
+    fn attempt(&mut self, program: &Program<'_>) -> Result<(), Stop>
+        ensures { Stepped S.cells S.rests (step_of (room self.old.stacks) (row_at (table_of program.now)) (S.cells self.old.store) (stacks self.old.stacks)) self.old self.new result }
+    {
+        match self.stacks.control.top().ok_or(Stop::Stuck)? {
+            Control::Whole(p) => {
+                let row = program.row(p).ok_or(Stop::Stuck)?;
+                self.stacks.whole(p, row, &self.store)
+            }
+            Control::Finish(p) => {
+                let row = program.row(p).ok_or(Stop::Stuck)?;
+                self.finish(p, row)
+            }
+        }
     }
-}
 
-/// One transition, tried. Where it is not made, nothing changes, on stacks or store.
-pub fn step<S: Store>(
-    program: &Program<'_>,
-    control: &mut Stack<'_, Control>,
-    results: &mut Stack<'_, Item>,
-    store: &mut S,
-) -> Result<(), Stop>
-    ensures tries { Tried (row_at (table_of program.now)) (places control.old) (places results.old) (configuration control.old results.old (S.cells store.old)) result (configuration control.new results.new (S.cells store.new)) }
-    ensures simp { result ≡ Ok tt → AsSimp (table_of program.now) (configuration control.old results.old (S.cells store.old)) 1 (configuration control.new results.new (S.cells store.new)) }
-    ensures places { room control.new results.new ≡ room control.old results.old }
-    ensures keeps { S.rests store.new ≡ S.rests store.old }
-{
-    attempt(program, control, results, store)
+    /// One transition, tried. Where it is not made, nothing changes, on stacks or store.
+    pub fn step(&mut self, program: &Program<'_>) -> Result<(), Stop>
+        ensures tries { Tried (row_at (table_of program.now)) (places self.old.stacks.control) (places self.old.stacks.results) (configuration S.cells self.old) result (configuration S.cells self.new) }
+        ensures simp { result ≡ Ok tt → AsSimp (table_of program.now) (configuration S.cells self.old) 1 (configuration S.cells self.new) }
+        ensures keeps { Keeps S.rests self.old self.new }
+    {
+        self.attempt(program)
+    }
 }

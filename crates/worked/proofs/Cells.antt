@@ -1,9 +1,8 @@
 -- Records that are set one after another stand for the cells of a case.
-use Rattle.std.proofs.Common.{◌≡◌, ℕ, suc, ◌+◌, ◌-◌, ◌<◌, ◌≤◌, cond, eqb, ltb, List, [], ◌∷◌, length, get_or, drop, set, replicate, ℤ, pos, negsuc, sym, ap, ◌∙◌, inl, inr, arith, get_or-set_same, w32, SFits, le-leb}
+use Rattle.std.proofs.Common.{◌≡◌, ℕ, suc, ◌+◌, ◌-◌, ◌<◌, ◌≤◌, cond, eqb, ltb, List, [], ◌∷◌, length, get_or, drop, set, replicate, ℤ, pos, negsuc, sym, ap, ◌∙◌, inl, inr, arith, get_or-set_same, w32, SFits, le-leb, Some, None}
 use lib.ListN.{get_or-replicate}
 use Rattle.std.proofs.lemmas.List.{drop_more}
 use Rattle.std.proofs.lemmas.Bool.Decides.{eqb_tells, leb_tells}
-use Rattle.cells.specs.declared.cell.Content.TheVariants.{Unset, Number}
 use Rattle.cells.specs.declared.cell.Cell.TheVariants.{Known}
 use Rattle.cells.specs.Cells.{widest, known_if}
 use Rattle.cells.proofs.Laws.{located}
@@ -15,7 +14,7 @@ use Rattle.worked.specs.declared.start.Holding.{Holding}
 use Rattle.worked.specs.Setups.{held_at, held}
 
 -- before any is set
-pub plain : (r : Record) → cell_of r ≡ Known (widest Unset) → (k : ℕ) → sheet_cells (replicate 256 r) k ≡ cells_with [] k
+pub plain : (r : Record) → cell_of r ≡ Known (widest None) → (k : ℕ) → sheet_cells (replicate 256 r) k ≡ cells_with [] k
 plain r e k = elim (leb_tells (suc k) 256) [
   | inl p ↦ ap (known_if (ltb k 256)) (ap cell_of (get_or-replicate 256 k r blank p.1) ∙ e)
   | inr p ↦ rw p.0
@@ -48,6 +47,6 @@ one_more hs i d rs r more within full small stands before k =
     ∙ ap (λ hs. cells_with (held hs) k) (sym rest)
 
 -- every number of 32 bits lies within the widest limits
-pub fitting : (n : ℤ) → SFits w32 n → sound (widest (Number n)) ≡ Known (widest (Number n))
+pub fitting : (n : ℤ) → SFits w32 n → sound (widest (Some n)) ≡ Known (widest (Some n))
 fitting (pos n) f = let h : n ≤ 2147483647 = omega (arith, f.sfits) in rw (le-leb n 2147483647 h)
 fitting (negsuc n) f = let h : n ≤ 2147483647 = omega (arith, f.sfits) in rw (le-leb n 2147483647 h)

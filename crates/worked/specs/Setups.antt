@@ -1,6 +1,5 @@
 -- What a case is run on.
 use Rattle.std.specs.Prelude.{◌≡◌, ℕ, ◌+◌, ◌≤◌, cond, List, [], ◌∷◌, map, take, Some, None, Option, ◌==◌}
-use Rattle.cells.specs.declared.cell.Content.TheVariants.{Number}
 use Rattle.cells.specs.declared.cell.Cell.{Cell}
 use Rattle.cells.specs.declared.cell.Cell.TheVariants.{Known}
 use Rattle.cells.specs.Cells.{widest}
@@ -31,7 +30,7 @@ abbrev pub table_at : ℕ → List ℕ
 table_at n = table_of_case (case_of n)
 
 abbrev pub held_at : Holding → ℕ × Cell
-held_at h = (h.location, Known (widest (Number h.number)))
+held_at h = (h.location, Known (widest (Some h.number)))
 
 abbrev pub held : List Holding → List (ℕ × Cell)
 held = map held_at

@@ -10,26 +10,22 @@ use machine::run::begin::begin;
 use machine::run::go_on::{LARGEST_SLICE, go_on};
 use machine::run::{Ended, Progress, TurnedDown};
 use semantics::item::{Control, Item};
-use stack::stack::Stack;
 use store::store::Store;
 use table::program::Program;
+use transition::machine::Machine;
 
 // Begins, and goes on for one slice of the largest length. None where begin refuses, or where the
 // run is not over after the slice.
 fn whole_run<S: Store>(
     program: &Program<'_>,
-    control: &mut Stack<'_, Control>,
-    results: &mut Stack<'_, Item>,
-    store: &mut S,
+    machine: &mut Machine<'_, S>,
     limit: u32,
 ) -> Option<Ended>
-    ensures tells { Tells (table_of program.now) (places control.old) (places results.old) limit (S.cells store.old) (S.cells store.new) result }
-    ensures keeps { S.rests store.new ≡ S.rests store.old }
+    ensures tells { Tells (table_of program.now) (places machine.old.stacks.control) (places machine.old.stacks.results) limit (S.cells machine.old.store) (S.cells machine.new.store) result }
+    ensures keeps { S.rests machine.new.store ≡ S.rests machine.old.store }
 {
-    let Ok(running) = begin(program, control, results, store, limit) else {
-        return None;
-    };
-    match go_on(running, program, control, results, store, LARGEST_SLICE) {
+    let running = begin(program, machine, limit).ok()?;
+    match go_on(running, program, machine, LARGEST_SLICE) {
         Ok(Progress::Ended(ended)) => Some(ended),
         Ok(Progress::Running(running)) => {
             running.give_up();
@@ -59,15 +55,8 @@ pub fn outcome<S: Store>(
     ensures keeps { S.rests store.new ≡ S.rests store.old }
 {
     let mut program = Program::new();
-    let Ok(needs) = program.load(words) else {
-        return None;
-    };
-    let deep = needs.control as usize;
-    let wide = needs.results as usize;
-    if deep > control.len() || wide > results.len() {
-        return None;
-    }
-    let mut control = Stack::new(&mut control[0..deep]);
-    let mut results = Stack::new(&mut results[0..wide]);
-    whole_run(&program, &mut control, &mut results, store, limit)
+    let needs = program.load(words).ok()?;
+    let control = control.get_mut(..needs.control as usize)?;
+    let results = results.get_mut(..needs.results as usize)?;
+    whole_run(&program, &mut Machine::new(control, results, store), limit)
 }

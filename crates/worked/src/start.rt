@@ -4,7 +4,7 @@ ghost use Rattle.semantics.specs.Worked.{cells_with};
 ghost use Rattle.sheet.specs.Sheets.{cell_of, sheet_cells};
 ghost use Rattle.worked.specs.Setups.{held_at, held};
 
-use cells::cell::{Content, KnownCell};
+use cells::cell::KnownCell;
 use sheet::record::Record;
 
 /// A location, with the number that its cell holds.
@@ -19,7 +19,7 @@ impl Holding {
     pub fn record(self) -> Record
         ensures { cell_of result ≡ (held_at self).1 }
     {
-        Record::new(KnownCell::widest(Content::Number(self.number)))
+        Record::new(KnownCell::widest(Some(self.number)))
     }
 }
 
@@ -27,12 +27,9 @@ impl Holding {
 pub fn records_with(start: &[Holding]) -> [Record; 256]
     ensures { (l : ℕ) → sheet_cells result l ≡ cells_with (held start.now) l }
 {
-    let mut records = [Record::new(KnownCell::widest(Content::Unset)); 256];
+    let mut records = [Record::new(KnownCell::widest(None)); 256];
     // From the last to the first, so that of two at one location the first counts.
-    let mut left = start.len();
-    while left > 0 {
-        left -= 1;
-        let holding = start[left];
+    for holding in start.iter().rev() {
         records[holding.location as usize] = holding.record();
     }
     records

@@ -1,20 +1,29 @@
-use mathlib.Core.Logic.{inl, inr}
+use Rattle.std.proofs.Common.{◌≡◌, Err, sym, subst, inl, inr, rules}
 use Rattle.table.specs.Places.{table_of}
 use Rattle.transition.specs.Exchanges.{room}
+use Rattle.transition.specs.Steps.{configuration}
 use Rattle.runs.specs.Histories.{rests, goes_on}
+use Rattle.machine.specs.States.{board_after}
+use Rattle.caller.specs.Frames.{Frames}
 use Rattle.caller.proofs.Second.{ends_first, goes_second}
 use Rattle.caller.proofs.two_frames.Goals as goal
 
-pub returns-in-Err : goal.returns-in-Err
-returns-in-Err g c = inl (goes_on c.in-Err.ensures.goes rests, inr c.in-Err.ensures.answers.0)
+pub returns-in_err-ended : goal.returns-in_err-ended
+returns-in_err-ended g c =
+    let k = room c.args.machine.now.stacks in
+    let before = configuration g.S.Store.cells c.args.machine.now in
+    let after = configuration g.S.Store.cells c.go_on.new.machine in
+    let told : c.from_residual.result ≡ Err c.in_err-ended.field-0.0 = search rules in
+    subst (λ r. Frames (table_of c.args.program.now) k.control k.results c.args.running.limit c.args.slice c.args.running.count before (board_after r after)) (sym told)
+    (inl (goes_on c.in_err-ended.ensures.goes rests, inr c.in_err-ended.ensures.answers.0))
 
 pub returns-in-Ended : goal.returns-in-Ended
 returns-in-Ended g c =
-    ends_first (table_of c.args.program.now) (room c.args.control.now c.args.results.now) _ c.args.slice _ _ _ c.in-Ok.progress
-    c.in-Ok.ensures.goes c.in-Ended.ended c.in-Ended.is
+    ends_first (table_of c.args.program.now) (room c.args.machine.now.stacks) _ c.args.slice _ _ _ _
+    c.in_ok-ended.ensures.goes c.in-Ended.ended c.in-Ended.is
 
 pub returns-in-Running : goal.returns-in-Running
 returns-in-Running g c =
-    goes_second (table_of c.args.program.now) (room c.args.control.now c.args.results.now) _ c.args.slice _ _ _ c.in-Ok.progress
-    c.in-Ok.ensures.goes c.in-Running.next _ _ c.in-Running.is c.go_on.ensures.places c.in-Ok.ensures.answers.1
+    goes_second (table_of c.args.program.now) (room c.args.machine.now.stacks) _ c.args.slice _ _ _ _
+    c.in_ok-ended.ensures.goes c.in-Running.next _ _ c.in-Running.is c.go_on.ensures.keeps.places c.in_ok-ended.ensures.answers.1
     c.go_on-in-Running.ensures.goes

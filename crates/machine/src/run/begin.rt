@@ -1,5 +1,5 @@
 // Beginning a run.
-ghost use Rattle.std.specs.Prelude.{◌≡◌};
+ghost use Rattle.std.specs.Prelude.{◌≡◌, Some, None, MatchResult};
 ghost use Rattle.stack.specs.Contents.{places};
 ghost use Rattle.table.specs.Places.{table_of};
 ghost use Rattle.transition.specs.Exchanges.{room};
@@ -7,54 +7,50 @@ ghost use Rattle.transition.specs.Steps.{configuration};
 ghost use Rattle.machine.specs.Begins.{Begins, first_no};
 
 use super::{BeginRefusal, Running};
-use semantics::item::{Control, Item};
-use stack::stack::Stack;
+use semantics::item::Control;
 use store::store::Store;
 use table::program::Program;
+use transition::machine::Machine;
+use transition::pair::StackPair;
 
 /// The largest limit on transitions.
 pub const LARGEST_LIMIT: u32 = 1_000_000_000;
 
-// The first question that gets a no.
-fn refusal(
-    program: &Program<'_>,
-    control: usize,
-    results: usize,
-    limit: u32,
-) -> Option<BeginRefusal>
-    ensures { result ≡ first_no (table_of program.now) control results limit }
+// Puts the questions in their order, and stops at the first no.
+fn ask(program: &Program<'_>, stacks: &StackPair<'_>, limit: u32) -> Result<(), BeginRefusal>
+    ensures { MatchResult result (λ _. first_no (table_of program.now) (places stacks.now.control) (places stacks.now.results) limit ≡ None) (λ e. first_no (table_of program.now) (places stacks.now.control) (places stacks.now.results) limit ≡ Some e) }
 {
     let needs = program.needs();
     if limit == 0 || limit > LARGEST_LIMIT {
-        Some(BeginRefusal::Limit)
-    } else if control < needs.control as usize {
-        Some(BeginRefusal::ControlPlaces)
-    } else if results < needs.results as usize {
-        Some(BeginRefusal::ResultsPlaces)
+        Err(BeginRefusal::Limit)
+    } else if stacks.control.places() < needs.control as usize {
+        Err(BeginRefusal::ControlPlaces)
+    } else if stacks.results.places() < needs.results as usize {
+        Err(BeginRefusal::ResultsPlaces)
     } else {
-        None
+        Ok(())
     }
 }
 
-/// Begins a run of the program over the store's cells: both stacks are emptied, and the control stack
-/// gets the last row, whole. After a no nothing is changed.
+/// Begins a run of the program over the cells of the machine's store: both stacks are emptied, and the
+/// control stack gets the last row, whole. After a no nothing is changed.
 pub fn begin<S: Store>(
     program: &Program<'_>,
-    control: &mut Stack<'_, Control>,
-    results: &mut Stack<'_, Item>,
-    store: &S,
+    machine: &mut Machine<'_, S>,
     limit: u32,
 ) -> Result<Running, BeginRefusal>
-    ensures begins { Begins (table_of program.now) (places control.old) (places results.old) limit (configuration control.old results.old (S.cells store.now)) result (configuration control.new results.new (S.cells store.now)) }
-    ensures places { room control.new results.new ≡ room control.old results.old }
+    ensures begins { Begins (table_of program.now) (places machine.old.stacks.control) (places machine.old.stacks.results) limit (configuration S.cells machine.old) result (configuration S.cells machine.new) }
+    ensures places { room machine.new.stacks ≡ room machine.old.stacks }
+    ensures store { machine.new.store ≡ machine.old.store }
 {
-    match refusal(program, control.places(), results.places(), limit) {
-        Some(no) => Err(no),
-        None => {
-            control.clear();
-            results.clear();
-            control.push(Control::Whole(program.last_row()));
-            Ok(Running { count: 0, limit })
-        }
-    }
+    ask(program, &machine.stacks, limit)?;
+    let stacks = &mut machine.stacks;
+    stacks.control.clear();
+    stacks.results.clear();
+    // There is room: a program needs one place at least, and that was asked.
+    stacks
+        .control
+        .push(Control::Whole(program.last_row()))
+        .unwrap();
+    Ok(Running { count: 0, limit })
 }

@@ -3,74 +3,71 @@ ghost use Rattle.std.specs.Prelude.{◌≡◌};
 ghost use Rattle.rows.specs.Rows.{row_at};
 ghost use Rattle.stack.specs.Contents.{contents, places};
 ghost use Rattle.table.specs.Places.{table_of};
-ghost use Rattle.transition.specs.Exchanges.{room};
-ghost use Rattle.transition.specs.Steps.{configuration};
+ghost use Rattle.transition.specs.Steps.{Keeps, configuration};
 ghost use Rattle.runs.specs.Slices.{Serves, GoesOn};
 ghost use Rattle.runs.specs.Promise.{AgreesOnward};
 ghost use Rattle.runs.specs.Simp.{SimpOnward};
 ghost use Rattle.machine.specs.States.{board_of, board_after, limit_of};
-ghost use Rattle.machine.specs.Goings.{Answered, none_left};
+ghost use Rattle.machine.specs.Goings.{Answered, none_left, seen};
 
 use super::{Ended, Progress, Running, TurnedDown};
 use runs::end::End;
-use semantics::item::{Control, Item};
-use stack::stack::Stack;
 use store::store::Store;
 use table::program::Program;
-use transition::step::step;
+use transition::machine::Machine;
+use transition::pair::StackPair;
 
 /// The largest slice.
 pub const LARGEST_SLICE: u32 = 1_000_000;
 
 // Both stacks are empty.
-fn finished(control: &Stack<'_, Control>, results: &Stack<'_, Item>) -> bool
-    ensures { result ≡ none_left (contents control.now) (contents results.now) }
+fn finished(stacks: &StackPair<'_>) -> bool
+    ensures { result ≡ none_left (contents stacks.now.control) (contents stacks.now.results) }
 {
-    control.len() == 0 && results.len() == 0
+    stacks.control.view().is_empty() && stacks.results.view().is_empty()
+}
+
+// The look before a transition: how the run ends in place of it, if it does.
+fn look(stacks: &StackPair<'_>, made: u32, limit: u32) -> Option<End>
+    ensures { result ≡ seen (none_left (contents stacks.now.control) (contents stacks.now.results)) made limit }
+{
+    if finished(stacks) {
+        Some(End::Finished)
+    } else if made >= limit {
+        Some(End::Limit)
+    } else {
+        None
+    }
 }
 
 // At most `slice` transitions more, with the looks before each of them and after the last.
 fn serve<S: Store>(
     running: Running,
     program: &Program<'_>,
-    control: &mut Stack<'_, Control>,
-    results: &mut Stack<'_, Item>,
-    store: &mut S,
+    machine: &mut Machine<'_, S>,
     slice: u32,
 ) -> Progress
-    ensures serves { Serves (row_at (table_of program.now)) (places control.old) (places results.old) running.limit slice running.count (configuration control.old results.old (S.cells store.old)) (board_of result (configuration control.new results.new (S.cells store.new))) }
+    ensures serves { Serves (row_at (table_of program.now)) (places machine.old.stacks.control) (places machine.old.stacks.results) running.limit slice running.count (configuration S.cells machine.old) (board_of result (configuration S.cells machine.new)) }
     ensures limit { limit_of running.limit result ≡ running.limit }
-    ensures places { room control.new results.new ≡ room control.old results.old }
-    ensures keeps { S.rests store.new ≡ S.rests store.old }
+    ensures keeps { Keeps S.rests machine.old machine.new }
 {
     let Running { count, limit } = running;
     let mut made = count;
-    let mut left = slice;
-    'looks: loop {
-        if finished(control, results) {
+    for _ in 0..slice {
+        if let Some(end) = look(&machine.stacks, made, limit) {
+            return Progress::Ended(Ended { end, count: made });
+        }
+        if let Err(stop) = machine.step(program) {
             return Progress::Ended(Ended {
-                end: End::Finished,
-                count: made,
-            });
-        }
-        if made >= limit {
-            return Progress::Ended(Ended {
-                end: End::Limit,
-                count: made,
-            });
-        }
-        if left == 0 {
-            return Progress::Running(Running { count: made, limit });
-        }
-        match step(program, control, results, store) {
-            Ok(()) => {}
-            Err(stop) => return Progress::Ended(Ended {
                 end: End::Stopped(stop),
                 count: made,
-            }),
+            });
         }
         made += 1;
-        left -= 1;
+    }
+    match look(&machine.stacks, made, limit) {
+        Some(end) => Progress::Ended(Ended { end, count: made }),
+        None => Progress::Running(Running { count: made, limit }),
     }
 }
 
@@ -81,20 +78,17 @@ fn serve<S: Store>(
 pub fn go_on<S: Store>(
     running: Running,
     program: &Program<'_>,
-    control: &mut Stack<'_, Control>,
-    results: &mut Stack<'_, Item>,
-    store: &mut S,
+    machine: &mut Machine<'_, S>,
     slice: u32,
 ) -> Result<Progress, TurnedDown>
-    ensures goes { GoesOn (row_at (table_of program.now)) (places control.old) (places results.old) running.limit slice running.count (configuration control.old results.old (S.cells store.old)) (board_after result (configuration control.new results.new (S.cells store.new))) }
+    ensures goes { GoesOn (row_at (table_of program.now)) (places machine.old.stacks.control) (places machine.old.stacks.results) running.limit slice running.count (configuration S.cells machine.old) (board_after result (configuration S.cells machine.new)) }
     ensures answers { Answered running slice result }
-    ensures places { room control.new results.new ≡ room control.old results.old }
-    ensures keeps { S.rests store.new ≡ S.rests store.old }
-    ensures agrees { AgreesOnward (table_of program.now) (places control.old) (places results.old) running.limit slice running.count (configuration control.old results.old (S.cells store.old)) (board_after result (configuration control.new results.new (S.cells store.new))) }
-    ensures simp { SimpOnward (table_of program.now) running.count (configuration control.old results.old (S.cells store.old)) (board_after result (configuration control.new results.new (S.cells store.new))) }
+    ensures keeps { Keeps S.rests machine.old machine.new }
+    ensures agrees { AgreesOnward (table_of program.now) (places machine.old.stacks.control) (places machine.old.stacks.results) running.limit slice running.count (configuration S.cells machine.old) (board_after result (configuration S.cells machine.new)) }
+    ensures simp { SimpOnward (table_of program.now) running.count (configuration S.cells machine.old) (board_after result (configuration S.cells machine.new)) }
 {
     if slice > LARGEST_SLICE {
         return Err(TurnedDown { running });
     }
-    Ok(serve(running, program, control, results, store, slice))
+    Ok(serve(running, program, machine, slice))
 }

@@ -1,9 +1,9 @@
 // What can be done with a stack.
 ghost use Rattle.std.specs.Prelude.{◌≡◌, ◌+◌, ◌-◌, ◌<◌, ◌≤◌, true, false, [], ◌∷◌, ◌++◌, length, if◌then◌else◌, nat_lt};
 ghost use Rattle.std.proofs.Math.ListN.{«drop» as past};
-ghost use Rattle.stack.specs.Contents.{contents, places, first, rest, fits};
+ghost use Rattle.stack.specs.Contents.{contents, places, first, rest, fits, where_room};
 
-use super::Stack;
+use super::{NoRoom, Stack};
 
 impl<'a, T: Copy> Stack<'a, T> {
     /// An empty stack over the slice, with a place for each of its items.
@@ -40,10 +40,7 @@ impl<'a, T: Copy> Stack<'a, T> {
     pub fn top(&self) -> Option<T>
         ensures { result ≡ first (contents self.now) }
     {
-        match self.view() {
-            [item, ..] => Some(*item),
-            [] => None,
-        }
+        self.view().first().copied()
     }
 
     /// Takes everything off.
@@ -54,17 +51,18 @@ impl<'a, T: Copy> Stack<'a, T> {
         self.top = self.items.len();
     }
 
-    /// Lays the item on top, or answers no and changes nothing where the stack is full.
-    pub fn push(&mut self, item: T) -> bool
-        ensures answers { result ≡ nat_lt (length (contents self.old)) (places self.old) }
-        ensures contents { contents self.new ≡ (if result then item ∷ contents self.old else contents self.old) }
+    /// Lays the item on top. Where the stack is full, nothing changes.
+    pub fn push(&mut self, item: T) -> Result<(), NoRoom>
+        ensures answers { result ≡ where_room (nat_lt (length (contents self.old)) (places self.old)) }
+        ensures contents { contents self.new ≡ (if nat_lt (length (contents self.old)) (places self.old) then item ∷ contents self.old else contents self.old) }
         ensures places { places self.new ≡ places self.old }
     {
         if self.top == 0 {
-            return false;
+            return Err(NoRoom);
         }
-        self.lay(item);
-        true
+        self.top -= 1;
+        self.items[self.top] = item;
+        Ok(())
     }
 
     /// Takes the topmost item off, or answers none and changes nothing where there is none.
@@ -73,10 +71,7 @@ impl<'a, T: Copy> Stack<'a, T> {
         ensures contents { contents self.new ≡ rest (contents self.old) }
         ensures places { places self.new ≡ places self.old }
     {
-        if self.top == self.items.len() {
-            return None;
-        }
-        let item = self.items[self.top];
+        let item = self.top()?;
         self.top += 1;
         Some(item)
     }
@@ -88,29 +83,19 @@ impl<'a, T: Copy> Stack<'a, T> {
         taken <= self.len() && laid.saturating_sub(taken) <= self.top
     }
 
-    /// Lays the items, the first of them topmost, in the place of the `taken` topmost; or answers no
-    /// and changes nothing where they do not fit.
-    pub fn exchange(&mut self, taken: usize, laid: &[T]) -> bool
-        ensures answers { result ≡ fits (places self.old) (contents self.old) taken (length laid.now) }
-        ensures contents { contents self.new ≡ (if result then laid.now ++ past taken (contents self.old) else contents self.old) }
+    /// Lays the items, the first of them topmost, in the place of the `taken` topmost. Where they do
+    /// not fit, nothing changes.
+    pub fn exchange(&mut self, taken: usize, laid: &[T]) -> Result<(), NoRoom>
+        ensures answers { result ≡ where_room (fits (places self.old) (contents self.old) taken (length laid.now)) }
+        ensures contents { contents self.new ≡ (if fits (places self.old) (contents self.old) taken (length laid.now) then laid.now ++ past taken (contents self.old) else contents self.old) }
         ensures places { places self.new ≡ places self.old }
     {
         if !self.fits(taken, laid.len()) {
-            return false;
+            return Err(NoRoom);
         }
         self.lose(taken);
-        self.lay_all(laid);
-        true
-    }
-
-    // Lays the item on top, where there is room.
-    fn lay(&mut self, item: T)
-        requires { length (contents self.old) < places self.old }
-        ensures contents { contents self.new ≡ item ∷ contents self.old }
-        ensures places { places self.new ≡ places self.old }
-    {
-        self.top -= 1;
-        self.items[self.top] = item;
+        self.lay(laid);
+        Ok(())
     }
 
     // Takes the topmost items off, where there are so many.
@@ -123,15 +108,13 @@ impl<'a, T: Copy> Stack<'a, T> {
     }
 
     // Lays the items on top, the first of them topmost, where there is room.
-    fn lay_all(&mut self, laid: &[T])
+    fn lay(&mut self, laid: &[T])
         requires { length laid.now + length (contents self.old) ≤ places self.old }
         ensures contents { contents self.new ≡ laid.now ++ contents self.old }
         ensures places { places self.new ≡ places self.old }
     {
-        let mut left = laid.len();
-        while left > 0 {
-            left -= 1;
-            self.lay(laid[left]);
-        }
+        let top = self.top - laid.len();
+        self.items[top..self.top].copy_from_slice(laid);
+        self.top = top;
     }
 }

@@ -12,7 +12,6 @@ returns g c =
     let went = history _ _ _ _ follows in
     record {
       follows = follows;
-      places = done.places;
       keeps = done.keeps;
       history = went;
       kept = keeping (table_of program) _ _ _ (held program) _ _ fate _ went;

@@ -11,7 +11,6 @@ returns g c =
     record {
       first = both.first;
       second = both.second;
-      places = both.places;
       keeps = both.keeps;
       agree = λ same. agreeing (table_of program) (held program) c.args.limit _ _ same _ _ _ _ _ _
           fates.0 fates.1 _ _ both.histories.0 both.histories.1;

@@ -1,8 +1,8 @@
-use Rattle.std.proofs.Common.{◌≡◌, refl, rules, sym, ◌∙◌, below_more}
+use Rattle.std.proofs.Common.{◌≡◌, Decides, arith, rules}
 use Rattle.cells.specs.Cells.{EqualCells}
-use Rattle.std.proofs.lemmas.Bool.{not-false}
+use Rattle.cells.proofs.Equality.{cell_Decides}
 use Rattle.cells.proofs.Laws.{equal_cells}
-use Rattle.cells.proofs.Equality.{same_cell}
+use Rattle.store.proofs.Searches.{inclusive_counts, all_decides}
 use Rattle.store.proofs.alike.alike.Goals as goal
 
 pub returns : goal.returns
@@ -10,13 +10,11 @@ returns g c =
     let s = g.S.Store in
     let one = c.args.one.now in
     let other = c.args.other.now in
-    let all : EqualCells (s.cells one) (s.cells other) = search rules in
+    let run = c.all.ensures.runs in
+    let counts = inclusive_counts run.0 0 256 run.1 c.new.ensures.exhausted c.new.ensures.start (omega arith) in
+    let told = all_decides run.0 0 256 counts _ _ (λ x b q k. search rules) (λ k. s.cells one k ≡ s.cells other k) (λ k b q. search (rules, cell_Decides)) c.all.result run.2 in
+    let decides : Decides c.all.result (EqualCells (s.cells one) (s.cells other)) = (λ yes k. told.0 yes k (omega arith), λ equal. told.1 (λ k _. equal k)) in
     record {
-      decides = (λ _. all, λ _. refl);
-      same = λ _. equal_cells (s.cells one) (s.cells other) (s.bounded one) (s.bounded other) all;
+      decides = decides;
+      same = λ yes. equal_cells (s.cells one) (s.cells other) (s.bounded one) (s.bounded other) (decides.0 yes);
     }
-
-pub loop-k-preserved : goal.loop-k-preserved
-loop-k-preserved g c =
-    let told : c.tell.result ≡ c.tell-in-loop-k.result = same_cell _ _ (not-false _ (sym c.if-ne.ensures)) in
-    below_more _ _ c.loop-k.invariant (sym c.tell.ensures.tells ∙ told ∙ c.tell-in-loop-k.ensures.tells)

@@ -3,6 +3,7 @@ use Rattle.table.specs.Places.{table_of}
 use Rattle.table.proofs.Held.{held}
 use Rattle.runs.specs.Slices.{turned_down, served}
 use Rattle.runs.proofs.Onward.{agrees_onward, simp_onward}
+use Rattle.transition.proofs.Kept.{unchanged}
 use Rattle.machine.proofs.run.go_on.go_on.Goals as goal
 
 pub returns-then-slice-gt-LARGEST_SLICE : goal.returns-then-slice-gt-LARGEST_SLICE
@@ -12,8 +13,7 @@ returns-then-slice-gt-LARGEST_SLICE g c =
     record {
       goes = goes;
       answers = (c.if-slice-gt-LARGEST_SLICE.true, refl);
-      places = refl;
-      keeps = refl;
+      keeps = unchanged;
       agrees = agrees_onward (table_of program) (held program) _ _ _ _ _ _ _ goes;
       simp = simp_onward (table_of program) (held program) _ _ _ _ _ _ _ goes;
     }
@@ -25,7 +25,6 @@ returns g c =
     record {
       goes = goes;
       answers = (c.if-slice-gt-LARGEST_SLICE.false, c.serve.ensures.limit);
-      places = c.serve.ensures.places;
       keeps = c.serve.ensures.keeps;
       agrees = agrees_onward (table_of program) (held program) _ _ _ _ _ _ _ goes;
       simp = simp_onward (table_of program) (held program) _ _ _ _ _ _ _ goes;

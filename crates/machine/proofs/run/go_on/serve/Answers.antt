@@ -1,63 +1,57 @@
-use Rattle.std.proofs.Common.{sym, refl, ◌∙◌, arith}
+use Rattle.std.proofs.Common.{◌+◌, ◌-◌, ◌<◌, ◌≡◌, refl, subst, arith}
 use Rattle.rows.specs.Rows.{row_at}
 use Rattle.table.specs.Places.{table_of}
 use Rattle.stack.specs.Contents.{contents}
+use Rattle.runs.specs.Slices.{Serves}
 use Rattle.transition.specs.Exchanges.{room}
-use Rattle.runs.specs.Slices.{finishes, runs_out}
-use Rattle.machine.proofs.Looks.{emptied, not_emptied, pausing, stopping, stepping}
+use Rattle.transition.specs.Steps.{configuration}
+use Rattle.transition.proofs.Kept.{then_kept}
+use Rattle.machine.proofs.Looks.{goes_on, ends, pausing, stopping, stepping}
 use Rattle.machine.proofs.run.go_on.serve.Goals as goal
 
-pub returns-then-finished : goal.returns-then-finished
-returns-then-finished g c =
-    record {
-      serves = c.looks.invariant.2 _ (finishes (emptied (contents c.looks.control) (contents c.looks.results) (g.S.Store.cells c.looks.store) (sym c.if-finished.ensures)));
-      limit = refl;
-      places = c.looks.invariant.0;
-      keeps = c.looks.invariant.1;
-    }
+pub returns-in-Some-clause-serves : goal.returns-in-Some-clause-serves
+returns-in-Some-clause-serves g c =
+    let stacks = c.loop.machine.stacks in
+    c.loop.invariant.1 _ (ends (contents stacks.control) (contents stacks.results) (g.S.Store.cells c.loop.machine.store) _ _ _ _ _ _ c.in-Some.ensures)
 
-pub returns-then-made-limit : goal.returns-then-made-limit
-returns-then-made-limit g c =
-    record {
-      serves = c.looks.invariant.2 _ (runs_out (not_emptied (contents c.looks.control) (contents c.looks.results) (g.S.Store.cells c.looks.store) (sym c.if-finished.ensures)) c.if-made-limit.true);
-      limit = refl;
-      places = c.looks.invariant.0;
-      keeps = c.looks.invariant.1;
-    }
+pub returns-in-Some-look-clause-serves : goal.returns-in-Some-look-clause-serves
+returns-in-Some-look-clause-serves g c =
+    let stacks = c.loop.machine.stacks in
+    c.loop.invariant.1 _ (ends (contents stacks.control) (contents stacks.results) (g.S.Store.cells c.loop.machine.store) _ _ _ _ _ _ c.in-Some-look.ensures)
 
-pub returns-then-left-eq0 : goal.returns-then-left-eq0
-returns-then-left-eq0 g c =
-    let k = room c.args.control.now c.args.results.now in
-    record {
-      serves = c.looks.invariant.2 _
-          (pausing (row_at (table_of c.args.program.now)) k k refl c.args.running.limit c.looks.left c.looks.made _
-          (not_emptied (contents c.looks.control) (contents c.looks.results) (g.S.Store.cells c.looks.store) (sym c.if-finished.ensures))
-          c.if-made-limit.false c.if-left-eq0.true);
-      limit = refl;
-      places = c.looks.invariant.0;
-      keeps = c.looks.invariant.1;
-    }
+pub returns-in-None-clause-serves : goal.returns-in-None-clause-serves
+returns-in-None-clause-serves g c =
+    let k = room c.args.machine.now.stacks in
+    let stacks = c.loop.machine.stacks in
+    let m = g.S.Store.cells c.loop.machine.store in
+    let on = goes_on (contents stacks.control) (contents stacks.results) m c.args.running.limit c.loop.made c.in-None.ensures in
+    let none_left : c.args.slice - c.loop.counter ≡ 0 = omega (arith, c.loop-test.false) in
+    c.loop.invariant.1 _ (pausing (row_at (table_of c.args.program.now)) k k refl c.args.running.limit _ c.loop.made _ on.0 on.1 none_left)
 
-pub returns-in-Err : goal.returns-in-Err
-returns-in-Err g c =
-    let k = room c.args.control.now c.args.results.now in
-    record {
-      serves = c.looks.invariant.2 _
-          (stopping (row_at (table_of c.args.program.now)) k _ c.looks.invariant.0 c.args.running.limit c.looks.left c.looks.made _
-          (not_emptied (contents c.looks.control) (contents c.looks.results) (g.S.Store.cells c.looks.store) (sym c.if-finished.ensures))
-          c.if-made-limit.false (omega (arith, c.if-left-eq0.false)) c.in-Err.ensures.tries);
-      limit = refl;
-      places = c.step.ensures.places ∙ c.looks.invariant.0;
-      keeps = c.step.ensures.keeps ∙ c.looks.invariant.1;
-    }
+pub returns-in-Err-clause-serves : goal.returns-in-Err-clause-serves
+returns-in-Err-clause-serves g c =
+    let k = room c.args.machine.now.stacks in
+    let stacks = c.loop.machine.stacks in
+    let m = g.S.Store.cells c.loop.machine.store in
+    let on = goes_on (contents stacks.control) (contents stacks.results) m c.args.running.limit c.loop.made c.in_default.ensures in
+    let left : 0 < c.args.slice - c.loop.counter = omega (arith, c.loop-test.true) in
+    c.loop.invariant.1 _
+    (stopping (row_at (table_of c.args.program.now)) k _ c.loop.invariant.0.places c.args.running.limit _ c.loop.made _ on.0 on.1 left c.in-Err.ensures.tries)
 
-pub looks-preserved : goal.looks-preserved
-looks-preserved g c =
-    let k = room c.args.control.now c.args.results.now in (
-      c.step.ensures.places ∙ c.looks.invariant.0,
-      c.step.ensures.keeps ∙ c.looks.invariant.1,
-      λ b rest. c.looks.invariant.2 b
-          (stepping (row_at (table_of c.args.program.now)) k _ c.looks.invariant.0 c.args.running.limit c.looks.left c.looks.made _
-          (not_emptied (contents c.looks.control) (contents c.looks.results) (g.S.Store.cells c.looks.store) (sym c.if-finished.ensures))
-          c.if-made-limit.false (omega (arith, c.if-left-eq0.false)) c.in-Ok.ensures.tries rest),
+pub returns-in-Err-clause-keeps : goal.returns-in-Err-clause-keeps
+returns-in-Err-clause-keeps g c = then_kept c.loop.invariant.0 c.step.ensures.keeps
+
+pub loop-preserved : goal.loop-preserved
+loop-preserved g c =
+    let k = room c.args.machine.now.stacks in
+    let stacks = c.loop.machine.stacks in
+    let m = g.S.Store.cells c.loop.machine.store in
+    let rows = row_at (table_of c.args.program.now) in
+    let on = goes_on (contents stacks.control) (contents stacks.results) m c.args.running.limit c.loop.made c.in_default.ensures in
+    let left : 0 < c.args.slice - c.loop.counter = omega (arith, c.loop-test.true) in
+    let one_less : c.args.slice - (c.loop.counter + 1) ≡ (c.args.slice - c.loop.counter) - 1 = omega arith in (
+      then_kept c.loop.invariant.0 c.step.ensures.keeps,
+      λ b rest. c.loop.invariant.1 b
+          (stepping rows k _ c.loop.invariant.0.places c.args.running.limit _ c.loop.made _ on.0 on.1 left c.in_default-step.ensures.tries
+          (subst (λ a. Serves rows k.control k.results c.args.running.limit a (c.loop.made + 1) (configuration g.S.Store.cells c.step.new.self) b) one_less rest)),
     )

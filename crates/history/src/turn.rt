@@ -1,5 +1,5 @@
-// A plan of go-ons, and what becomes of the board that follows it.
-use machine::run::{BeginRefusal, Ended, Running};
+// The turns of a plan, and what becomes of each.
+use machine::run::Ended;
 
 /// One go-on of a plan: the slice that is asked for, and what became of it.
 #[derive(Clone, Copy, PartialEq, Eq, Debug)]
@@ -18,15 +18,5 @@ pub enum Seen {
     /// The slice was served, and the run has made so many transitions.
     Running(u32),
     /// The run ended within the slice.
-    Ended(Ended),
-}
-
-/// What became of a board.
-///
-/// It holds the run where that has not ended, so it can be neither copied nor let go unseen.
-pub enum Fate {
-    /// The run was not begun.
-    Refused(BeginRefusal),
-    Running(Running),
     Ended(Ended),
 }

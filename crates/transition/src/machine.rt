@@ -1,0 +1,30 @@
+// What a run works on.
+ghost use Rattle.std.specs.Prelude.{◌≡◌, [], length};
+ghost use Rattle.stack.specs.Contents.{contents, places};
+
+use crate::pair::StackPair;
+use semantics::item::{Control, Item};
+use stack::stack::Stack;
+
+/// The abstract machine of a run: its two stacks, over the store whose cells the rules read and put.
+#[derive(Drop)]
+pub struct Machine<'a, S> {
+    pub stacks: StackPair<'a>,
+    pub store: S,
+}
+
+impl<'a, S> Machine<'a, S> {
+    /// A machine over that store. Its stacks are empty, and their places those of the lent slices.
+    pub fn new(control: &'a mut [Control], results: &'a mut [Item], store: S) -> Machine<'a, S>
+        ensures control { (contents result.stacks.control ≡ []) × (places result.stacks.control ≡ length control.old) }
+        ensures results { (contents result.stacks.results ≡ []) × (places result.stacks.results ≡ length results.old) }
+        ensures store { result.store ≡ store }
+    {
+        let control = Stack::new(control);
+        let results = Stack::new(results);
+        Machine {
+            stacks: StackPair { control, results },
+            store,
+        }
+    }
+}
