@@ -1,3 +1,4 @@
+pub mod Decimals
 pub mod Given
 pub mod Leftover
 pub mod Sole
