@@ -1,5 +1,5 @@
 -- What the lines say can be relied on.
-use Rattle.std.proofs.Common.{ℕ, zero, suc, ◌+◌, ◌<◌, List, ◌∷◌, length, replicate, vec_items, sym, ap, ◌∙◌, subst, inl, inr, arith, length-append, length-set}
+use Rattle.std.proofs.Common.{ℕ, zero, suc, ◌+◌, List, replicate, vec_items, sym, ◌∙◌, subst, length-set}
 use lib.ListN.{length-replicate}
 use Rattle.std.proofs.ByRecursion.{All-set, All-push}
 use Rattle.std.specs.List.{AllByRecursion}
@@ -14,7 +14,6 @@ use Rattle.job_line.specs.Lines.Says.{nothing, headed}
 use Rattle.job.specs.Drafts.{State, empty, Adds, TakesIn}
 use Rattle.job.specs.declared.job.Job.{Job}
 use Rattle.job.specs.Finishes.{Finishes}
-use Rattle.job.specs.FirstLines.{FirstLine}
 use Rattle.job.specs.Reading.{Leads, LawfulCell, FewPlaces, SoundParts, Sound}
 use Rattle.job.specs.Reading.Leads.{ended, goes_on}
 
@@ -73,8 +72,3 @@ pub sound_job : (s : State) (j : Job) → Finishes s j → SoundState s → Soun
 sound_job s j f so =
     subst (λ (cells : List Cell). SoundParts cells (vec_items j.boards)) (sym f.cells)
     (subst (λ (boards : List BoardLine). SoundParts s.cells boards) (sym f.boards) so)
-
--- what follows the first line is shorter than the text
-pub shorter : (text line rest : List ℕ) → 0 < length text → FirstLine text line rest → length rest < length text
-shorter text line rest some (inl p) = omega (arith, ap length p.whole, length-append line (10 ∷ rest))
-shorter text line rest some (inr p) = omega (arith, some, ap length p.2)

@@ -16,8 +16,7 @@ impl fmt::Display for BadLine {
     ghost output = { λ b. Some (message_of b) };
 
     fn fmt<W: fmt::Write>(&self, f: &mut fmt::Formatter<W>) -> fmt::Result {
-        let line = self.line;
-        let words = self.wrong.words();
-        write!(f, "line {line}: {words}")
+        let BadLine { line, wrong } = *self;
+        write!(f, "line {line}: {wrong}")
     }
 }

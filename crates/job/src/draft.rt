@@ -44,15 +44,12 @@ impl Draft {
     fn set_cell(&mut self, location: u8, cell: KnownCell) -> Result<(), Wrong>
         ensures { MatchResult result (λ _. Adds (state_of self.old) (JobLine.Cell location cell) (state_of self.new)) (Clashes (state_of self.old) (JobLine.Cell location cell)) }
     {
-        let at = location as usize;
-        let before = self.cells[at];
-        match before {
-            Cell::Known(_) => Err(Wrong::SecondCell),
-            Cell::Unknown => {
-                self.cells[at] = Cell::Known(cell);
-                Ok(())
-            }
+        let place = &mut self.cells[location as usize];
+        if let Cell::Known(_) = place {
+            return Err(Wrong::SecondCell);
         }
+        *place = Cell::Known(cell);
+        Ok(())
     }
 
     /// Takes in what one line says.

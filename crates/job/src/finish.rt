@@ -1,6 +1,8 @@
 // From what the lines said to a job.
-ghost use Rattle.std.specs.Prelude.{Decides, MatchResult};
-ghost use Rattle.std.specs.List.{AllByRecursion};
+ghost use Rattle.std.specs.Prelude.{◌≡◌, ◌≢◌, Decides, MatchOption, MatchResult};
+ghost use Rattle.std.specs.List.{ContainsAt as Has, AllByRecursion};
+ghost use Rattle.job_line.specs.declared.board_line.BoardLine.{BoardLine};
+ghost use Rattle.job_line.specs.declared.make.Make.{Make};
 ghost use Rattle.job.specs.Drafts.{state_of};
 ghost use Rattle.job.specs.Finishes.{Fit, Suits, Unsuited, Finishes, Unfinished};
 
@@ -18,10 +20,9 @@ fn is_fit(cell: Cell) -> bool
 {
     match cell {
         Cell::Unknown => true,
-        Cell::Known(known) => match known.content {
-            None => false,
-            Some(_) => known == KnownCell::widest(known.content),
-        },
+        Cell::Known(known) => {
+            known.content.is_some() && known == KnownCell::widest(known.content)
+        }
     }
 }
 
@@ -29,12 +30,16 @@ fn is_fit(cell: Cell) -> bool
 fn all_fit(cells: &[Cell]) -> bool
     ensures { Decides result (AllByRecursion Fit cells.now) }
 {
-    for cell in cells {
-        if !is_fit(*cell) {
-            return false;
-        }
-    }
-    true
+    cells.iter().all(|cell| is_fit(*cell))
+}
+
+// The first board of pairs.
+fn first_of_pairs(boards: &[BoardLine]) -> Option<&BoardLine>
+    ensures { MatchOption result (AllByRecursion (λ (b : BoardLine). b.make ≢ Make.Pairs) boards.now) (λ b. Has boards.now b.now × (b.now.make ≡ Make.Pairs)) }
+{
+    boards
+        .iter()
+        .find(|board| matches!(board.make, Make::Pairs))
 }
 
 // Whether the cells suit every board: a board of pairs asks that a pair list can hold them.
@@ -44,15 +49,13 @@ fn suit(cells: &[Cell], boards: &[BoardLine]) -> Result<(), BadLine>
     if all_fit(cells) {
         return Ok(());
     }
-    for board in boards {
-        if let Make::Pairs = board.make {
-            return Err(BadLine {
-                line: board.line,
-                wrong: Wrong::UnfitForPairs,
-            });
-        }
+    match first_of_pairs(boards) {
+        Some(board) => Err(BadLine {
+            line: board.line,
+            wrong: Wrong::UnfitForPairs,
+        }),
+        None => Ok(()),
     }
-    Ok(())
 }
 
 /// The job that so many lines make.
@@ -62,12 +65,10 @@ pub(crate) fn finish(draft: Draft, lines: usize) -> Result<Job, BadLine>
     suit(&draft.cells, draft.boards.as_slice())?;
     // A text of no lines lacks them on its first.
     let line = lines.max(1);
-    let Some(limit) = draft.limit else {
-        return Err(BadLine {
-            line,
-            wrong: Wrong::NoLimit,
-        });
-    };
+    let limit = draft.limit.ok_or(BadLine {
+        line,
+        wrong: Wrong::NoLimit,
+    })?;
     if draft.boards.is_empty() {
         return Err(BadLine {
             line,

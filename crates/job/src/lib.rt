@@ -4,8 +4,8 @@
 pub mod bad_line;
 mod draft;
 mod finish;
-mod first_line;
 pub mod job;
+mod lines;
 pub mod read;
 
 pub use job_line::board_line::BoardLine;

@@ -5,8 +5,8 @@ ghost use Rattle.job.specs.Reading.{Reads, Sound, Stops};
 use crate::bad_line::BadLine;
 use crate::draft::Draft;
 use crate::finish::finish;
-use crate::first_line::first_line;
 use crate::job::Job;
+use crate::lines::Lines;
 use std::alloc::Global;
 
 /// The job that the text says, or the first line that is wrong.
@@ -18,18 +18,15 @@ pub fn read(heap: Global, text: &[u8]) -> Result<Job, BadLine>
     ensures sound { IfOk result Sound }
 {
     let mut draft = Draft::new(heap);
-    let mut rest = text;
-    let mut number: usize = 0;
-    while !rest.is_empty() {
-        let (line, after) = first_line(rest);
-        number += 1;
-        if let Err(wrong) = draft.read_line(heap, number, line) {
-            return Err(BadLine {
+    let mut number = 0;
+    for (before, line) in Lines::of(text).enumerate() {
+        number = before + 1;
+        draft
+            .read_line(heap, number, line)
+            .map_err(|wrong| BadLine {
                 line: number,
                 wrong,
-            });
-        }
-        rest = after;
+            })?;
     }
     finish(draft, number)
 }

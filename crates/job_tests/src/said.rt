@@ -18,9 +18,7 @@ board neighbours:064 6 4 50
 
 #[test]
 fn parts(rt: HostRuntime) -> Result<(), Fail> {
-    let Ok(job) = read(rt.alloc(), JOB) else {
-        return Err(Fail::new("refused"));
-    };
+    let job = read(rt.alloc(), JOB)?;
     assert_eq!(rt; job.limit, 1_000_000);
     assert!(rt; job.table.as_slice() == [0, 1, 0, 0, 8, 2, 0, 0, 4_294_967_295].as_slice());
     assert_eq!(rt; job.cells[0], Cell::Unknown);
@@ -38,9 +36,7 @@ fn parts(rt: HostRuntime) -> Result<(), Fail> {
 
 #[test]
 fn boards(rt: HostRuntime) -> Result<(), Fail> {
-    let Ok(job) = read(rt.alloc(), JOB) else {
-        return Err(Fail::new("refused"));
-    };
+    let job = read(rt.alloc(), JOB)?;
     assert!(rt; job.boards.len() == 3);
     let first = &job.boards[0];
     assert_eq!(rt; first.line, 8);
@@ -57,10 +53,18 @@ fn boards(rt: HostRuntime) -> Result<(), Fail> {
 #[test]
 fn pairs_before_their_cells(rt: HostRuntime) -> Result<(), Fail> {
     let text = b"board pairs 6 4 1\nlimit 0\ncell 1 -2147483648 2147483647 free 0";
-    let Ok(job) = read(rt.alloc(), text) else {
-        return Err(Fail::new("refused"));
-    };
+    let job = read(rt.alloc(), text)?;
     assert!(rt; job.boards.len() == 1);
     assert_eq!(rt; job.boards[0].make, Make::Pairs);
+    Ok(())
+}
+
+#[test]
+fn makes_as_printed(rt: HostRuntime) -> Result<(), Fail> {
+    let heap = rt.alloc();
+    assert!(rt; Make::Sheet.to_string(heap)?.as_str() == "sheet");
+    assert!(rt; Make::Cover(10, 20).to_string(heap)?.as_str() == "cover:10:20");
+    assert!(rt; Make::Neighbours(64).to_string(heap)?.as_str() == "neighbours:64");
+    assert!(rt; Make::Pairs.to_string(heap)?.as_str() == "pairs");
     Ok(())
 }

@@ -14,13 +14,9 @@ fn refuses(
     line: usize,
     wrong: Wrong,
 ) -> Result<(), Fail> {
-    match read(heap, text) {
-        Ok(_) => Err(Fail::new("read")),
-        Err(bad) => {
-            assert_eq!(rt; bad, BadLine { line, wrong });
-            Ok(())
-        },
-    }
+    let refused = read(heap, text).err();
+    assert_eq!(rt; refused, Some(BadLine { line, wrong }));
+    Ok(())
 }
 
 #[test]
