@@ -2,7 +2,7 @@
 #![tactic(auto)]
 
 use crate::checked::checked;
-use crate::complaint::complaint;
+use crate::complaint::Complaint;
 use command::program::Program;
 use command::trouble::Trouble;
 use fields::read::ReadError;
@@ -35,8 +35,8 @@ fn check(rt: &HostRuntime, text: &[u8]) -> Result<(), Trouble<String>> {
     match checked(heap, text) {
         Ok(line) => println!(rt; "{line}")?,
         Err(ReadError::NoNumber(field)) => {
-            let message = complaint(heap, text, field)?;
-            return Err(Trouble::Input(format!(in heap; "tablecheck: {message}")?));
+            let told = Complaint::of(text, field);
+            return Err(Trouble::Input(format!(in heap; "tablecheck: {told}")?));
         }
         Err(ReadError::Memory) => return Err(Trouble::Memory),
     }

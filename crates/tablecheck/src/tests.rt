@@ -1,6 +1,6 @@
 // What the program tells, on examples.
 use crate::checked::checked;
-use crate::complaint::complaint;
+use crate::complaint::Complaint;
 use fields::read::ReadError;
 use fields::span::Span;
 use std::alloc::Global;
@@ -29,7 +29,7 @@ fn bad_word_on_the_third_line(rt: HostRuntime) -> Result<(), Fail> {
     let field = Span { start: 11, end: 13 };
     let refused = checked(heap, text).err();
     assert_eq!(rt; refused, Some(ReadError::NoNumber(field)));
-    let message = complaint(heap, text, field)?;
+    let message = Complaint::of(text, field).to_string(heap)?;
     assert!(rt; message.as_str() == "line 3, column 3: +\\xff is no 32-bit number");
     Ok(())
 }
