@@ -15,9 +15,9 @@ get_or-first_chunks n (suc k) (suc i) j words h in_chunk =
     ∙ ap (λ m. get_or words m 0) (omega arith)
 
 -- the words of the chunk p are those of the row p
-pub words_in-chunk : (table : List ℕ) (p : ℕ) (row : List ℕ) → p < rows table → row ≡ get_or (first_chunks 4 (rows table) table) p [] →
+pub words_in_chunk : (table : List ℕ) (p : ℕ) (row : List ℕ) → p < rows table → row ≡ get_or (first_chunks 4 (rows table) table) p [] →
     words_in row ≡ words_at table p
-words_in-chunk table p row h is =
+words_in_chunk table p row h is =
     let word = λ (j : ℕ) (lt : j < 4). ap (λ (l : List ℕ). get_or l j 0) is ∙ get_or-first_chunks 4 (rows table) p j table h lt in
     let kind : get_or row 0 0 ≡ get_or table (p * 4) 0 = word 0 (omega arith) ∙ ap (λ m. get_or table m 0) (add-zero (p * 4)) in
     cc (kind, word 1 (omega arith), word 2 (omega arith), word 3 (omega arith))

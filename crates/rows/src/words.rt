@@ -22,6 +22,7 @@ impl From<[u32; 4]> for Words {
 }
 
 /// The words of the row `p`; none past the last whole row.
+#[tactic(auto, using(crate::proofs::Chunks::words_in_chunk))]
 pub fn words_at(table: &[u32], p: u32) -> Option<Words>
     ensures { result ≡ words_of table.now p }
 {
