@@ -8,8 +8,8 @@ use Rattle.rows.specs.declared.row.Row.TheVariants as row
 use Rattle.rows.specs.Parts.{EachPart}
 use Rattle.loading.specs.Questions.{OnPart, OfRow}
 use Rattle.loading.specs.Surveys.{RowPasses}
-use Rattle.rows.specs.Rows.{rows, row_at, words_of, words_at, decoded, sort_at, then}
-use Rattle.loading.proofs.EachKind.{Spelt, passing_spells}
+use Rattle.rows.specs.Rows.{rows, row_at, kind_of, words_of, words_at, decoded, sort_at, then}
+use Rattle.loading.proofs.EachKind.{SpeltAs, passing_spells}
 
 -- what follows of each part from two facts
 pub each_both : (Q R P : Sort → ℕ → Type 0) → ((s : Sort) (x : ℕ) → Q s x → R s x → P s x) → (r : Row) → EachPart Q r → EachPart R r → EachPart P r
@@ -31,7 +31,7 @@ pub each_part : (Q P : Sort → ℕ → Type 0) → ((s : Sort) (x : ℕ) → Q 
 each_part Q P f r q = each_both Q Q P (λ s x h _. f s x h) r q q
 
 module _ (table : List ℕ) (p : ℕ) (passes : RowPasses table p) where
-  pub spelt_at : (Q : Sort → ℕ → Type 0) → Spelt Q (words_at table p)
+  pub spelt_at : (Q : Sort → ℕ → Type 0) → SpeltAs Q (words_at table p) (kind_of (words_at table p).kind)
   spelt_at Q = passing_spells Q (words_at table p) passes.0 passes.2
 
   -- what holds of each word that names a part holds of each part
@@ -39,7 +39,7 @@ module _ (table : List ℕ) (p : ℕ) (passes : RowPasses table p) where
   parts_at Q q r e =
       let s = spelt_at Q in
       let f = s.spells in
-      let same : s.spelt ≡ r = cc in
+      let same : s.spelt_row ≡ r = cc in
       subst (EachPart Q) same (s.parts q)
 
   pub parts_lower : (r : Row) → decoded (words_at table p) ≡ Some r → EachPart (λ _ x. x < p) r

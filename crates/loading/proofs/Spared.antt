@@ -9,9 +9,9 @@ use Rattle.rows.specs.Rows.{row_at}
 use Rattle.loading.specs.Stacks.{needed, nothing, of_row, needs_below, needs_at}
 use Rattle.loading.specs.Surveys.{known_of}
 
--- what n rows can need: two places for each, and one
+-- what n rows can need: two places for each
 abbrev pub Within : ℕ → Needs → Type 0
-Within n x = (x.control ≤ 2 * n + 1) × (x.results ≤ 2 * n + 1)
+Within n x = (x.control ≤ 2 * n) × (x.results ≤ 2 * n)
 
 module _ (f : ℕ → Needs) (n : ℕ) (low : (x : ℕ) → Within n (f x)) where
   needed_within : (r : Row) → Within (suc n) (needed f r)
@@ -50,6 +50,12 @@ known_none (suc n) (suc k) = known_none n k
 pub needs_none : (table : List ℕ) (k : ℕ) → needs_below table 0 k ≡ nothing
 unfolding needs_below
 needs_none table k = refl
+
+-- what one row more needs
+pub more_within : (table : List ℕ) (known : List Needs) (p : ℕ) (v : Needs) →
+    ((k : ℕ) → known_of known k ≡ needs_below table p k) → v ≡ of_row (known_of known) (row_at table p) → Within (suc p) v
+more_within table known p v same is =
+    rw is (of_row_within (known_of known) p (λ k. rw (same k) (needs_within table p k)) (row_at table p))
 
 -- the list after one row more
 pub known_more : (table : List ℕ) (known : List Needs) (p : ℕ) (v : Needs) → p < length known →
