@@ -1,5 +1,5 @@
 -- Cases on the kind of a row: the row that passing words spell, and its parts.
-use Rattle.std.proofs.Common.{◌≡◌, ℕ, ◌<◌, ◌≤◌, Bool, Some, None, Option, IfSome, refl, ap, arith, w32, to_z}
+use Rattle.std.proofs.Common.{◌≡◌, ℕ, ◌<◌, ◌≤◌, Some, None, Option, IfSome, refl, ap, arith, w32, to_z}
 use Rattle.std.proofs.lemmas.Bool.{lt-ltb}
 use Rattle.std.proofs.lemmas.Bool.Decides.{nat_tests}
 use Rattle.std.specs.Option.{option_map}
@@ -9,8 +9,6 @@ use Rattle.rows.specs.declared.row.Sort.{Sort}
 use Rattle.rows.specs.declared.words.Words.{Words}
 use Rattle.rows.specs.declared.row.Row.{Row}
 use Rattle.rows.specs.declared.row.Row.TheVariants as row
-use Rattle.rows.specs.declared.row.Operator.{Operator}
-use Rattle.rows.specs.declared.row.Relation.{Relation}
 use Rattle.rows.specs.Parts.{EachPart}
 use Rattle.rows.specs.Rows.{kind_of, operator_of, relation_of, truth_of, spelt, then}
 use Rattle.loading.specs.Layouts.{layout_for}

@@ -48,25 +48,28 @@ pub(crate) fn needs_of(row: Row, known: &[SmallNeeds]) -> Needs
     requires { EachPart (λ _ x. x < length known.now) row }
     ensures { result ≡ needed (known_of known.now) row }
 {
+    let part = |x: u32| known[x as usize];
     match row {
         Row::Number(_) | Row::Contents(_) | Row::Truth(_) => Needs {
             control: 1,
             results: 1,
         },
         Row::Arithmetic(_, x, y) | Row::Comparison(_, x, y) | Row::And(x, y) => {
-            known[x as usize].above(2, 0).max(known[y as usize].above(1, 1))
+            part(x).above(2, 0).max(part(y).above(1, 1))
         }
-        Row::Not(x) => known[x as usize].above(1, 0),
+        Row::Not(x) => part(x).above(1, 0),
         Row::Skip => Needs {
             control: 1,
             results: 0,
         },
-        Row::Assignment(_, x) => known[x as usize].above(1, 1),
-        Row::Sequence(x, y) => known[x as usize].above(1, 0).max(known[y as usize].needs()),
+        Row::Assignment(_, x) => part(x).above(1, 1),
+        Row::Sequence(x, y) => part(x).above(1, 0).max(part(y).needs()),
         Row::Choice(b, x, y) => {
-            let parts = known[x as usize].needs().max(known[y as usize].needs());
-            known[b as usize].above(1, 2).max(parts)
+            part(b)
+                .above(1, 2)
+                .max(part(x).needs())
+                .max(part(y).needs())
         }
-        Row::Loop(b, x) => known[b as usize].above(1, 2).max(known[x as usize].above(1, 0)),
+        Row::Loop(b, x) => part(b).above(1, 2).max(part(x).above(1, 0)),
     }
 }

@@ -1,7 +1,6 @@
-use Rattle.std.proofs.Common.{◌≡◌, ◌<◌, [], length, replicate, slice_index_or, sym, ap, ◌∙◌, arith, below_more}
+use Rattle.std.proofs.Common.{◌<◌, [], length, replicate, slice_index_or, sym, ap, ◌∙◌, arith, below_more}
 use Rattle.std.proofs.lemmas.Result.{err_from_is_err_and}
 use Rattle.rows.proofs.Chunks.{words_in_chunk}
-use Rattle.loading.specs.Stacks.{of_row}
 use Rattle.loading.specs.Surveys.{RowPasses, known_of}
 use Rattle.loading.proofs.Order.{first_no}
 use Rattle.loading.proofs.Passing.{each_part, parts_lower, row_within}
@@ -33,8 +32,7 @@ needs_of-requires c =
 pub new-requires : goal.new-requires
 new-requires c =
     let row = row_within c.args.table.now c.loop-p.p (omega arith) ∙ c.in_ok-row.ensures.1 in
-    let h = more_within c.args.table.now c.loop-p.known c.loop-p.p c.needs_of.result c.loop-p.invariant.needs
-    (c.needs_of.ensures ∙ sym (ap (of_row (known_of c.loop-p.known)) row)) in
+    let h = more_within c.args.table.now c.loop-p.known c.loop-p.p c.loop-p.invariant.needs c.in_ok-row.row row c.needs_of.result c.needs_of.ensures in
     (omega arith, omega arith)
 
 pub loop-p-preserved : goal.loop-p-preserved
@@ -43,8 +41,8 @@ loop-p-preserved c =
     record {
       passed = below_more (RowPasses c.args.table.now) c.loop-p.p c.loop-p.invariant.passed c.in_ok-row.ensures.0;
       needs =
-          known_more c.args.table.now c.loop-p.known c.loop-p.p c.new.result (omega arith) c.loop-p.invariant.needs
-          (c.new.ensures ∙ c.needs_of.ensures ∙ sym (ap (of_row (known_of c.loop-p.known)) row));
+          known_more c.args.table.now c.loop-p.known c.loop-p.p c.loop-p.invariant.needs c.in_ok-row.row row c.new.result
+          (c.new.ensures ∙ c.needs_of.ensures) (omega arith);
     }
 
 pub returns : goal.returns

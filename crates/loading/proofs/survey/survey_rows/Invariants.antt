@@ -1,5 +1,5 @@
 -- Every row below p has passed, and the list has the needs of each, and nothing past them.
-use Rattle.std.proofs.Common.{◌≡◌, ℕ, ◌<◌, length}
+use Rattle.std.proofs.Common.{◌≡◌, ℕ, ◌<◌}
 use Rattle.loading.specs.Stacks.{needs_below}
 use Rattle.loading.specs.Surveys.{RowPasses, known_of}
 use Rattle.loading.proofs.survey.survey_rows.Given as goal
