@@ -21,8 +21,13 @@ pub fn loads(rt: &impl Abort, words: &[u32], control: u16, results: u16) {
 /// The words are refused with that question and row, and the place keeps the factorial table.
 pub fn refuses(rt: &impl Abort, words: &[u32], number: u8, row: u32) {
     let mut place = Program::new();
-    assert!(rt; place.load(&FACTORIAL).is_ok(), "the factorial table does not load");
-    let answer = place.load(words).map_err(|refusal| (refusal.number(), refusal.row()));
+    assert!(rt;
+        place.load(&FACTORIAL).is_ok(),
+        "the factorial table does not load"
+    );
+    let answer = place
+        .load(words)
+        .map_err(|refusal| (refusal.number(), refusal.row()));
     assert_eq!(rt; answer.err(), Some((number, row)));
     assert_eq!(rt; place.last_row(), 12);
 }
