@@ -1,5 +1,5 @@
 -- What a program place holds: the table of the one row skip is loaded, and so is every table in a place.
-use Rattle.std.proofs.Common.{◌≡◌, ℕ, ◌<◌, List, [], ◌∷◌, IfSome, Some, None, Option, refl, subst, arith}
+use Rattle.std.proofs.Common.{◌≡◌, ℕ, ◌<◌, List, [], ◌∷◌, IfSome, Some, None, Option, Ok, refl, subst, arith}
 use mathlib.Core.Logic.{∥∥₁_elim}
 use std.HLevel.{Π_prop}
 use base.Stored.{Coded-set}
@@ -17,6 +17,8 @@ use Rattle.loading.specs.declared.refusal.Refusal.TheVariants as no
 use Rattle.rows.specs.declared.words.Words.{Words}
 use Rattle.loading.specs.Layouts.{layout_of}
 use Rattle.table.specs.Places.{table_of}
+use Rattle.loading.specs.Loading.{Answers}
+use Rattle.loading.specs.Stacks.{needs_below, needs_at}
 use Rattle.loading.specs.Questions.{Yes, Loaded, OfRow, Each, Clear, InRange, OnPart, Lower, Sorted}
 use Rattle.rows.specs.Rows.{words_at, sort_at}
 
@@ -32,6 +34,10 @@ skip_loaded (no.Range p) h = let e : 0 ≡ p = omega arith in subst (λ n. Yes s
 skip_loaded (no.Forward p) h = let e : 0 ≡ p = omega arith in subst (λ n. Yes skip_table (no.Forward n)) e (tt, tt, tt)
 skip_loaded (no.Mismatch p) h = let e : 0 ≡ p = omega arith in subst (λ n. Yes skip_table (no.Mismatch n)) e (tt, tt, tt)
 skip_loaded (no.NotCommand p) h = let e : 0 ≡ p = omega arith in subst (λ n. Yes skip_table (no.NotCommand n)) e refl
+
+pub skip_accepted : Answers skip_table (Ok (record { control = 1; results = 0 }))
+unfolding needs_below needs_at
+skip_accepted = (skip_loaded, refl)
 
 -- A yes is known in at most one way, so a place's table may be used as loaded in every proof.
 

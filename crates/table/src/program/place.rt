@@ -18,6 +18,7 @@ const SKIP: [u32; 4] = [7, 0, 0, 0];
 
 impl<'a> Program<'a> {
     /// A place that holds the table of the one row skip.
+    #[tactic(auto, using(crate::proofs::Held::skip_accepted))]
     pub fn new() -> Program<'a>
         ensures { Accepted (7 ∷ 0 ∷ 0 ∷ 0 ∷ []) result }
     {
