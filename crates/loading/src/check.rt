@@ -44,7 +44,7 @@ impl Field {
         }
     }
 
-    // Question 6 of one word.
+    // Question 6 of one word. With a `part()` and `is_none_or` for it and for `lower`, `check_row` did not prove.
     fn sorted(self, table: &[u32], w: u32) -> bool
         ensures { Decides result (Sorted table.now self w) }
     {

@@ -25,15 +25,18 @@ use Rattle.rows.specs.Rows.{words_at, sort_at}
 abbrev pub skip_table : List ℕ
 skip_table = 7 ∷ 0 ∷ 0 ∷ 0 ∷ []
 
+only_row : (P : ℕ → Type 0) → P 0 → (p : ℕ) → p < 1 → P p
+only_row P h p within = let e : 0 ≡ p = omega arith in subst P e h
+
 pub skip_loaded : Loaded skip_table
 unfolding sort_at
 skip_loaded no.Length h = (refl, omega arith, omega arith)
-skip_loaded (no.Kind p) h = let e : 0 ≡ p = omega arith in subst (λ n. Yes skip_table (no.Kind n)) e (omega arith)
-skip_loaded (no.Unused p) h = let e : 0 ≡ p = omega arith in subst (λ n. Yes skip_table (no.Unused n)) e (refl, refl, refl)
-skip_loaded (no.Range p) h = let e : 0 ≡ p = omega arith in subst (λ n. Yes skip_table (no.Range n)) e (tt, tt, tt)
-skip_loaded (no.Forward p) h = let e : 0 ≡ p = omega arith in subst (λ n. Yes skip_table (no.Forward n)) e (tt, tt, tt)
-skip_loaded (no.Mismatch p) h = let e : 0 ≡ p = omega arith in subst (λ n. Yes skip_table (no.Mismatch n)) e (tt, tt, tt)
-skip_loaded (no.NotCommand p) h = let e : 0 ≡ p = omega arith in subst (λ n. Yes skip_table (no.NotCommand n)) e refl
+skip_loaded (no.Kind p) h = only_row (λ n. Yes skip_table (no.Kind n)) (omega arith) p h
+skip_loaded (no.Unused p) h = only_row (λ n. Yes skip_table (no.Unused n)) (refl, refl, refl) p h
+skip_loaded (no.Range p) h = only_row (λ n. Yes skip_table (no.Range n)) (tt, tt, tt) p h
+skip_loaded (no.Forward p) h = only_row (λ n. Yes skip_table (no.Forward n)) (tt, tt, tt) p h
+skip_loaded (no.Mismatch p) h = only_row (λ n. Yes skip_table (no.Mismatch n)) (tt, tt, tt) p h
+skip_loaded (no.NotCommand p) h = only_row (λ n. Yes skip_table (no.NotCommand n)) refl p (omega arith)
 
 pub skip_accepted : Answers skip_table (Ok (record { control = 1; results = 0 }))
 unfolding needs_below needs_at
