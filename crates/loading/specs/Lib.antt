@@ -3,4 +3,5 @@ pub mod Loading
 pub mod Questions
 pub mod Stacks
 pub mod Surveys
+pub mod Texts
 pub mod WellFormed

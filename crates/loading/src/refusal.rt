@@ -1,7 +1,9 @@
 // The questions that loading asks, each as the refusal that a no to it gives.
-
-ghost use Rattle.std.specs.Prelude.{◌≡◌};
+ghost use Rattle.std.specs.Prelude.{◌≡◌, Some};
 ghost use Rattle.loading.specs.Questions.{number_of, row_of};
+ghost use Rattle.loading.specs.Texts.{text_of_refusal};
+
+use std::fmt;
 
 /// Why a table was refused: the first question that got a no, with its row.
 #[derive(Clone, Copy, PartialEq, Eq, Debug)]
@@ -51,5 +53,15 @@ impl Refusal {
             | Refusal::Mismatch(p)
             | Refusal::NotCommand(p) => p,
         }
+    }
+}
+
+impl fmt::Display for Refusal {
+    ghost output = { λ e. Some (text_of_refusal e) };
+
+    fn fmt<W: fmt::Write>(&self, f: &mut fmt::Formatter<W>) -> fmt::Result {
+        let question = self.number();
+        let row = self.row();
+        write!(f, "refused {question} row {row}")
     }
 }
