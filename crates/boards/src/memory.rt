@@ -67,9 +67,9 @@ impl CellMemory {
         for i in 0..256usize {
             if let Cell::Known(cell) = cells[i] {
                 if i < at {
-                    records[i] = Record::new(cell);
+                    records[i] = Record::from(cell);
                 } else {
-                    next[i - at] = Record::new(cell);
+                    next[i - at] = Record::from(cell);
                 }
                 if let Some(n) = cell.content {
                     words.push(i as i32)?;

@@ -20,12 +20,12 @@ pub const SPIN: [u32; 12] = [3, 1, 0, 0, 7, 0, 0, 0, 11, 0, 1, 0];
 
 /// Free, unset and of the widest limits.
 pub fn plain() -> Record {
-    Record::new(KnownCell::widest(None))
+    Record::from(KnownCell::widest(None))
 }
 
 /// From 0 to 6, holding 5, fixed or free.
 pub fn narrow(mark: Mark) -> Record {
-    Record::new(KnownCell {
+    Record::from(KnownCell {
         lowest: 0,
         highest: 6,
         mark,
