@@ -8,7 +8,7 @@ use Rattle.worked.proofs.start.records_with.Goals as goal
 pub loop-holding-init : goal.loop-holding-init
 loop-holding-init c =
     let all : c.args.start.now ≡ c.into_iter-holding-iterator.result.iter.rest.now = search rules in
-    (refl, ([], all ∙ sym (append-nil c.into_iter-holding-iterator.result.iter.rest.now), plain c.from-records.result (c.from-records.ensures.from_gives.1 ∙ ap sound c.widest.ensures)))
+    (refl, ([], all ∙ sym (append-nil c.into_iter-holding-iterator.result.iter.rest.now), plain c.from-records.result (c.from-records.ensures.1 ∙ ap sound c.widest.ensures)))
 
 pub loop-holding-preserved : goal.loop-holding-preserved
 loop-holding-preserved c =
