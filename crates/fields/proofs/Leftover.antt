@@ -1,5 +1,5 @@
 -- Reading a number digit by digit: the number so far, and the digits that are left.
-use Rattle.std.proofs.Common.{◌≡◌, ℕ, suc, ◌+◌, ◌-◌, ◌*◌, ◌^◌, ◌<◌, List, [], ◌∷◌, length, sym, ap, mul_assoc, add-mul, le-mul_of_pos_right, arith}
+use Rattle.std.proofs.Common.{◌≡◌, ℕ, suc, ◌+◌, ◌-◌, ◌*◌, ◌^◌, ◌<◌, List, ◌∷◌, length, sym, ap, mul_assoc, add-mul, le-mul_of_pos_right, arith}
 use native.Mathlib.Nat.{pow-succ', one-le-pow}
 use Rattle.fields.specs.Numbers.{Digit, Digits, number_of}
 
@@ -9,9 +9,6 @@ pub record Leftover (n : ℕ) (rest whole : List ℕ) : Type 0 where
   pub back : Digits rest → Digits whole
   pub on : Digits whole → Digits rest
   pub small : n < 2 ^ 32
-
-pub left_none : (whole : List ℕ) → Leftover 0 whole whole
-left_none whole = record { value = omega arith; back = λ h. h; on = λ h. h; small = omega arith }
 
 -- the weight of the number so far falls by ten, and the digit's is its own
 weigh : (n d k : ℕ) → n * 10 ^ suc k + d * 10 ^ k ≡ (n * 10 + d) * 10 ^ k
@@ -28,8 +25,3 @@ module _ {n c : ℕ} {cs whole : List ℕ} (left : Leftover n (c ∷ cs) whole) 
   pub left_refused : (Digit c × (n * 10 + (c - 48) < 2 ^ 32) → ⊥) → Digits whole × (number_of whole < 2 ^ 32) → ⊥
   left_refused never h =
       never ((left.on h.0).0, omega (arith, h.1, next_value, le-mul_of_pos_right (n * 10 + (c - 48)) (one-le-pow (length cs) 10 (omega arith))))
-
-pub left_all : {n : ℕ} {whole : List ℕ} → Leftover n [] whole → (Digits whole × (number_of whole < 2 ^ 32)) × (n ≡ number_of whole)
-left_all {n} {whole} left =
-    let same : n ≡ number_of whole = omega (arith, left.value) in
-    ((left.back tt, omega (arith, left.small)), same)

@@ -1,4 +1,5 @@
 pub mod Blanks
+pub mod FieldSteps
 pub mod Integers
 pub mod Numbers
 pub mod Places

@@ -1,5 +1,5 @@
 -- A text read as a list of numbers.
-use Rattle.std.specs.Prelude.{◌≡◌, ℕ, ◌<◌, ◌≤◌, List, [], ◌∷◌, ◌++◌, map, length, Some, None, Option}
+use Rattle.std.specs.Prelude.{◌≡◌, ℕ, List, [], ◌∷◌, ◌++◌, map}
 use Rattle.std.specs.List.{AllByRecursion}
 use Rattle.fields.specs.declared.read.ReadError.{ReadError}
 use Rattle.fields.specs.declared.read.ReadError.TheVariants.{NoNumber, Memory}
@@ -38,16 +38,3 @@ pub record FirstBad (text : List ℕ) (f : Span) : Type 0 where
 abbrev pub Stops : List ℕ → ReadError → Type 0
 Stops text (NoNumber f) = FirstBad text f
 Stops text Memory = Unit {0}
-
--- On the way: the fields that end by an offset are read, and these are their numbers.
-pub record ReadTo (text : List ℕ) (at : ℕ) (vs : List ℕ) : Type 0 where
-  pub fields : List Span
-  pub turn : InTurn text 0 fields
-  pub here : at ≡ reached 0 fields
-  pub words : Words text fields
-  pub same : vs ≡ values_of text fields
-
--- one field more is read, or there is none
-abbrev pub Step : List ℕ → ℕ → List ℕ → Option ℕ → Type 0
-Step text at vs None = Values text vs
-Step text at vs (Some end) = ReadTo text end vs × (at < end) × (end ≤ length text)

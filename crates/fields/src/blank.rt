@@ -8,8 +8,5 @@ ghost use Rattle.fields.specs.Blanks.{Blank};
 pub fn is_blank(b: u8) -> bool
     ensures { Decides result (Blank b) }
 {
-    match b {
-        b'\t'..=b'\r' | b' ' => true,
-        _ => false,
-    }
+    matches!(b, b'\t'..=b'\r' | b' ')
 }

@@ -2,6 +2,7 @@
 #![tactic(auto)]
 
 pub mod blank;
+pub mod iter;
 pub mod number;
 pub mod place;
 pub mod read;

@@ -15,26 +15,14 @@ fn line_feeds(text: &[u8]) -> usize
     ensures count { result ≡ feeds text.now }
     ensures bound { result ≤ length text.now }
 {
-    let mut count = 0;
-    for b in text {
-        if *b == b'\n' {
-            count += 1;
-        }
-    }
-    count
+    text.iter().filter(|b| **b == b'\n').count()
 }
 
 // Where the last line begins: after the last line feed.
 fn last_line(text: &[u8]) -> usize
     ensures { BeginsLine text.now result }
 {
-    let mut begin = 0;
-    for (i, b) in text.iter().enumerate() {
-        if *b == b'\n' {
-            begin = i + 1;
-        }
-    }
-    begin
+    text.iter().rposition(|b| *b == b'\n').map_or(0, |i| i + 1)
 }
 
 /// The line and the column of the byte at an offset. An offset past the end is taken as the end.
@@ -42,7 +30,7 @@ pub fn place_of(text: &[u8], offset: usize) -> Place
     ensures { AtPlace text.now offset result }
 {
     let end = offset.min(text.len());
-    let before = &text[0..end];
+    let before = &text[..end];
     Place {
         line: line_feeds(before) + 1,
         column: end - last_line(before) + 1,

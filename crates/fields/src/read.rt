@@ -1,11 +1,14 @@
 // A text read as a list of numbers.
-ghost use Rattle.std.specs.Prelude.{◌≡◌, MatchResult};
+ghost use Rattle.std.specs.Prelude.{◌≡◌, ◌≤◌, length, MatchResult};
 ghost use Rattle.std.specs.Vec as vecs;
-ghost use Rattle.fields.specs.declared.read.ReadError.TheVariants.{Memory};
-ghost use Rattle.fields.specs.Reading.{ReadTo, Step, Values, Stops};
+ghost use Rattle.fields.specs.declared.read.ReadError.TheVariants.{NoNumber, Memory};
+ghost use Rattle.fields.specs.Numbers.{Word, number_of};
+ghost use Rattle.fields.specs.Spans.{bytes_of};
+ghost use Rattle.fields.specs.Reading.{Values, Stops};
 
+use crate::iter::Fields;
 use crate::number::unsigned;
-use crate::span::{Span, next_field};
+use crate::span::Span;
 use std::alloc;
 use std::alloc::{AllocFailed, Global};
 
@@ -34,21 +37,12 @@ impl<T: Drop> From<AllocFailed<T>> for ReadError {
     }
 }
 
-// Reads the field that comes next and puts its number after the others: the offset where it ends,
-// or none where no field is left.
-fn read_next(text: &[u8], at: usize, values: &mut Vec<u32>) -> Result<Option<usize>, ReadError>
-    requires { ReadTo text.now at (vecs.vec_items values.old) }
-    ensures { MatchResult result (Step text.now at (vecs.vec_items values.new)) (Stops text.now) }
+// The number that a field of the text writes.
+fn number_in(text: &[u8], field: Span) -> Result<u32, ReadError>
+    requires { (field.start ≤ field.end) × (field.end ≤ length text.now) }
+    ensures { MatchResult result (λ n. Word (bytes_of text.now field) × (n ≡ number_of (bytes_of text.now field))) (λ e. ¬ Word (bytes_of text.now field) × (e ≡ NoNumber field)) }
 {
-    let Some(field) = next_field(text, at) else {
-        return Ok(None);
-    };
-    let Span { start, end } = field;
-    let Some(n) = unsigned(&text[start..end]) else {
-        return Err(ReadError::NoNumber(field));
-    };
-    values.push(n)?;
-    Ok(Some(end))
+    unsigned(field.bytes(text)).ok_or(ReadError::NoNumber(field))
 }
 
 /// The numbers that the fields of a text write, in their order; or the first field that is no
@@ -57,9 +51,8 @@ pub fn unsigned_fields(heap: Global, text: &[u8]) -> Result<Vec<u32>, ReadError>
     ensures { MatchResult result (λ v. Values text.now (vecs.vec_items v)) (Stops text.now) }
 {
     let mut values = Vec::new(heap);
-    let mut at = 0;
-    while let Some(end) = read_next(text, at, &mut values)? {
-        at = end;
+    for field in Fields::of(text) {
+        values.push(number_in(text, field)?)?;
     }
     Ok(values)
 }

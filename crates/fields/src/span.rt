@@ -1,7 +1,7 @@
 // The fields of a text: its longest runs of bytes that are no white space.
-ghost use Rattle.std.specs.Prelude.{◌<◌, ◌≤◌, length, MatchOption, slice_index};
+ghost use Rattle.std.specs.Prelude.{◌≡◌, ◌<◌, ◌≤◌, length, MatchOption, slice_index};
 ghost use Rattle.fields.specs.Blanks.{Blank, BlankBetween, SolidBetween};
-ghost use Rattle.fields.specs.Spans.{Next, NoMore};
+ghost use Rattle.fields.specs.Spans.{Next, NoMore, bytes_of};
 
 use crate::blank::is_blank;
 
@@ -12,40 +12,40 @@ pub struct Span {
     pub end: usize,
 }
 
-// Where the blanks that follow an offset end.
-fn past_blanks(text: &[u8], from: usize) -> usize
-    ensures order { (from ≤ result) × ((from ≤ length text.now → result ≤ length text.now)) }
-    ensures blank { BlankBetween text.now from result }
-    ensures stops { result < length text.now → Blank (slice_index text.now result) → ⊥ }
-{
-    let mut at = from;
-    while at < text.len() && is_blank(text[at]) {
-        at += 1;
+impl Span {
+    /// The bytes of the text that stand there.
+    pub fn bytes(self, text: &[u8]) -> &[u8]
+        requires { (self.start ≤ self.end) × (self.end ≤ length text.now) }
+        ensures { result.now ≡ bytes_of text.now self }
+    {
+        &text[self.start..self.end]
     }
-    at
 }
 
-// Where the bytes that follow an offset and are no blanks end.
-fn past_solid(text: &[u8], from: usize) -> usize
-    ensures order { (from ≤ result) × ((from ≤ length text.now → result ≤ length text.now)) }
-    ensures solid { SolidBetween text.now from result }
-    ensures stops { result < length text.now → Blank (slice_index text.now result) }
+// The offset of the first byte that is no blank, from an offset on.
+fn start_from(text: &[u8], from: usize) -> Option<usize>
+    ensures { MatchOption result (NoMore text.now from) (λ s. (from ≤ s) × (s < length text.now) × BlankBetween text.now from s × ¬ Blank (slice_index text.now s)) }
 {
-    let mut at = from;
-    while at < text.len() && !is_blank(text[at]) {
-        at += 1;
-    }
-    at
+    (from..text.len()).find(|at| !is_blank(text[*at]))
+}
+
+// Where the field ends that begins there: at the first blank, or at the end of the text.
+fn end_of(text: &[u8], start: usize) -> usize
+    requires { start < length text.now }
+    ensures within { (start ≤ result) × (result ≤ length text.now) }
+    ensures solid { SolidBetween text.now start result }
+    ensures closed { result < length text.now → Blank (slice_index text.now result) }
+{
+    (start..text.len())
+        .find(|at| is_blank(text[*at]))
+        .unwrap_or(text.len())
 }
 
 /// The first field that begins at an offset or after it; none where only white space follows.
 pub fn next_field(text: &[u8], from: usize) -> Option<Span>
     ensures { MatchOption result (NoMore text.now from) (Next text.now from) }
 {
-    let start = past_blanks(text, from);
-    if start >= text.len() {
-        return None;
-    }
-    let end = past_solid(text, start + 1);
+    let start = start_from(text, from)?;
+    let end = end_of(text, start);
     Some(Span { start, end })
 }

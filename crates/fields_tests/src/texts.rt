@@ -1,4 +1,5 @@
 // Whole texts: their fields, their numbers, and the first field that is none.
+use fields::iter::Fields;
 use fields::read::{ReadError, unsigned_fields};
 use fields::span::{Span, next_field};
 use std::alloc::Global;
@@ -7,13 +8,9 @@ use std::test::Fail;
 
 // That the text is read as those numbers.
 fn reads(rt: &impl Abort, heap: Global, text: &[u8], numbers: &[u32]) -> Result<(), Fail> {
-    match unsigned_fields(heap, text) {
-        Ok(v) => {
-            assert!(rt; v.as_slice() == numbers);
-            Ok(())
-        },
-        Err(_) => Err(Fail::new("refused")),
-    }
+    let v = unsigned_fields(heap, text)?;
+    assert!(rt; v.as_slice() == numbers);
+    Ok(())
 }
 
 // That the text is refused for the field there.
@@ -24,13 +21,9 @@ fn refuses(
     start: usize,
     end: usize,
 ) -> Result<(), Fail> {
-    match unsigned_fields(heap, text) {
-        Ok(_) => Err(Fail::new("read")),
-        Err(e) => {
-            assert_eq!(rt; e, ReadError::NoNumber(Span { start, end }));
-            Ok(())
-        },
-    }
+    let refused = unsigned_fields(heap, text).err();
+    assert_eq!(rt; refused, Some(ReadError::NoNumber(Span { start, end })));
+    Ok(())
 }
 
 #[test]
@@ -41,6 +34,15 @@ fn fields(rt: HostRuntime) {
     assert_eq!(rt; next_field(b" ab\n", 0), Some(Span { start: 1, end: 3 }));
     assert_eq!(rt; next_field(b"ab cd", 2), Some(Span { start: 3, end: 5 }));
     assert_eq!(rt; next_field(b"ab", 7), None);
+}
+
+#[test]
+fn fields_in_their_order(rt: HostRuntime) {
+    let mut fields = Fields::of(b" ab\n\tcde");
+    assert_eq!(rt; fields.next(), Some(Span { start: 1, end: 3 }));
+    assert_eq!(rt; fields.next(), Some(Span { start: 5, end: 8 }));
+    assert_eq!(rt; fields.next(), None);
+    assert_eq!(rt; fields.next(), None);
 }
 
 #[test]

@@ -1,9 +1,4 @@
-pub mod BoardWords
-pub mod CellWords
 pub mod Covers
-pub mod Cutting
-pub mod Heading
-pub mod LimitWords
 pub mod Listed
 pub mod Naming
 pub mod Parting

@@ -1,5 +1,5 @@
 -- Words that are referred to, and what they write.
-use Rattle.std.proofs.Common.{◌≡◌, ℕ, ◌+◌, ◌<◌, List, [], ◌∷◌, ◌++◌, map, length, get_or, take, sym, refl, ap, ◌∙◌, subst, Bor}
+use Rattle.std.proofs.Common.{◌≡◌, ℕ, ◌+◌, ◌<◌, List, [], ◌∷◌, ◌++◌, map, length, get_or, take, sym, ap, ◌∙◌, subst, Bor}
 use Rattle.std.specs.List.{AllByRecursion}
 use Rattle.std.proofs.ByRecursion.{All-get_or, All-push}
 use Rattle.std.proofs.lemmas.List.{get_or-map, length-map, map_push, take_more}
@@ -18,11 +18,12 @@ text_at xs i = (get_or xs i nothing).now
 pub word_is : (xs : List (Bor (List ℕ))) (i : ℕ) → i < length xs → word (texts xs) i ≡ text_at xs i
 word_is xs i h = get_or-map (λ w. w.now) xs i nothing [] h
 
+-- what holds of the text that is referred to holds of the word
+pub told : (P : List ℕ → Type 0) (xs : List (Bor (List ℕ))) (i : ℕ) → i < length xs → P (text_at xs i) → P (word (texts xs) i)
+told P xs i h p = subst P (sym (word_is xs i h)) p
+
 pub length_texts : (xs : List (Bor (List ℕ))) → length (texts xs) ≡ length xs
 length_texts xs = length-map xs (λ w. w.now)
-
-pub numbers_none : Numbers [] []
-numbers_none = (tt, refl)
 
 pub numbers_more : (xs : List (Bor (List ℕ))) (i : ℕ) (ns ms : List ℕ) → i < length xs → Numbers (texts (take i xs)) ns → Word (text_at xs i) → ms ≡ ns ++ number_of (text_at xs i) ∷ [] → Numbers (texts (take (i + 1) xs)) ms
 numbers_more xs i ns ms h so new more =

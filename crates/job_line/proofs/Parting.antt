@@ -1,14 +1,13 @@
 -- Bytes cut in two at a byte: how, and that there is no other way.
-use Rattle.std.proofs.Common.{◌≡◌, ℕ, ◌+◌, ◌<◌, List, [], ◌∷◌, ◌++◌, length, get_or, take, drop, refl, arith}
-use Rattle.std.proofs.lemmas.List.{take-append-drop, drop_more}
+use Rattle.std.proofs.Common.{◌≡◌, ◌≢◌, ℕ, zero, suc, ◌<◌, ◌≤◌, List, [], ◌∷◌, ◌++◌, length, get_or, take, refl, arith}
 use Rattle.fields.specs.Numbers.{Digits}
-use Rattle.job_line.specs.Splits.{Lacks, Parted}
+use Rattle.job_line.specs.Splits.{Lacks}
 
-pub parted_at : (text : List ℕ) (i byte : ℕ) → i < length text → get_or text i 0 ≡ byte → Lacks byte (take i text) → Parted byte text (take i text) (drop (i + 1) text)
-parted_at text i byte h is before =
-    let whole = take-append-drop i text in
-    let rest = drop_more text i 0 h in
-    record { whole = cc; first = before }
+-- no such byte stands before that place
+pub lacks_before : (text : List ℕ) (i byte : ℕ) → i ≤ length text → ((k : ℕ) → k < i → get_or text k 0 ≢ byte) → Lacks byte (take i text)
+lacks_before text zero byte within others = tt
+lacks_before [] (suc i) byte within others = tt
+lacks_before (c ∷ text) (suc i) byte within others = (others 0 (omega arith), lacks_before text i byte (omega arith) (λ k h. others (suc k) (omega arith)))
 
 -- the byte is one of the whole's
 pub lacks_none : (byte : ℕ) (front back : List ℕ) → Lacks byte (front ++ byte ∷ back) → ⊥

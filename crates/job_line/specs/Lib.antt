@@ -1,6 +1,7 @@
 pub mod BoardLines
 pub mod CellLines
 pub mod Lines
+pub mod MakeTexts
 pub mod Makes
 pub mod Messages
 pub mod Numbers

@@ -25,18 +25,14 @@ pub struct BoardLine {
 pub(crate) fn board_of(heap: Global, line: usize, words: &[&[u8]]) -> Result<BoardLine, Wrong>
     ensures { MatchResult result (λ b. SaysBoard (texts words.now) line b) (RefusesBoard (texts words.now)) }
 {
-    if words.len() < 3 {
+    let [make, control, results, slices @ ..] = words else {
         return Err(Wrong::Missing);
-    }
-    let make = make_of(words[0])?;
-    let control = places_of(words[1])?;
-    let results = places_of(words[2])?;
-    let slices = numbers_of(heap, &words[3..])?;
+    };
     Ok(BoardLine {
         line,
-        make,
-        control,
-        results,
-        slices,
+        make: make_of(make)?,
+        control: places_of(control)?,
+        results: places_of(results)?,
+        slices: numbers_of(heap, slices)?,
     })
 }

@@ -9,8 +9,7 @@ ghost use Rattle.job_line.specs.Numbers.{Reads};
 ghost use Rattle.job_line.specs.Words.{texts};
 
 use crate::make::byte_of;
-use crate::split::spells;
-use crate::words::exactly;
+use crate::words::miscounted;
 use crate::wrong::Wrong;
 use cells::cell::{KnownCell, Mark};
 use fields::signed::signed;
@@ -18,42 +17,31 @@ use fields::signed::signed;
 fn location_of(word: &[u8]) -> Result<u8, Wrong>
     ensures { Reads result (Byte word.now) (number_of word.now) NotLocation }
 {
-    match byte_of(word) {
-        Some(location) => Ok(location),
-        None => Err(Wrong::NotLocation),
-    }
+    byte_of(word).ok_or(Wrong::NotLocation)
 }
 
 fn limit_of(word: &[u8]) -> Result<i32, Wrong>
     ensures { Reads result (Integer word.now) (integer_of word.now) NotSigned }
 {
-    match signed(word) {
-        Some(limit) => Ok(limit),
-        None => Err(Wrong::NotSigned),
-    }
+    signed(word).ok_or(Wrong::NotSigned)
 }
 
 fn mark_of(word: &[u8]) -> Result<Mark, Wrong>
     ensures { MatchResult result (WritesMark word.now) (NoMark word.now) }
 {
-    if spells(word, "free") {
-        Ok(Mark::Free)
-    } else if spells(word, "fixed") {
-        Ok(Mark::Fixed)
-    } else {
-        Err(Wrong::NotMark)
+    match word {
+        b"free" => Ok(Mark::Free),
+        b"fixed" => Ok(Mark::Fixed),
+        _ => Err(Wrong::NotMark),
     }
 }
 
 fn content_of(word: &[u8]) -> Result<Option<i32>, Wrong>
     ensures { MatchResult result (WritesContent word.now) (NoContent word.now) }
 {
-    if spells(word, "unset") {
-        return Ok(None);
-    }
-    match signed(word) {
-        Some(number) => Ok(Some(number)),
-        None => Err(Wrong::NotContent),
+    match word {
+        b"unset" => Ok(None),
+        _ => signed(word).map(Some).ok_or(Wrong::NotContent),
     }
 }
 
@@ -61,13 +49,15 @@ fn content_of(word: &[u8]) -> Result<Option<i32>, Wrong>
 fn written(words: &[&[u8]]) -> Result<(u8, KnownCell), Wrong>
     ensures { MatchResult result (λ p. WritesCell (texts words.now) p.0 p.1) (RefusesParts (texts words.now)) }
 {
-    exactly(words, 5)?;
-    let location = location_of(words[0])?;
+    let [location, lowest, highest, mark, content] = words else {
+        return Err(miscounted(words.len(), 5));
+    };
+    let location = location_of(location)?;
     let cell = KnownCell {
-        lowest: limit_of(words[1])?,
-        highest: limit_of(words[2])?,
-        mark: mark_of(words[3])?,
-        content: content_of(words[4])?,
+        lowest: limit_of(lowest)?,
+        highest: limit_of(highest)?,
+        mark: mark_of(mark)?,
+        content: content_of(content)?,
     };
     Ok((location, cell))
 }
@@ -79,10 +69,10 @@ fn lawful(cell: KnownCell) -> Result<(), Wrong>
     if cell.lowest > cell.highest {
         return Err(Wrong::LimitsCross);
     }
-    match cell.content {
-        Some(number) if !cell.within(number) => Err(Wrong::OutsideLimits),
-        _ => Ok(()),
+    if cell.content.is_some_and(|number| !cell.within(number)) {
+        return Err(Wrong::OutsideLimits);
     }
+    Ok(())
 }
 
 /// The location and the cell that the words write: location, lowest and highest number, mark and content.

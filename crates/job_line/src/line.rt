@@ -6,8 +6,7 @@ ghost use Rattle.job_line.specs.Words.{texts};
 use crate::board_line::{BoardLine, board_of};
 use crate::cell_line::cell_of;
 use crate::numbers::{number_of, numbers_of};
-use crate::split::spells;
-use crate::words::{exactly, words_of};
+use crate::words::{miscounted, words_of};
 use crate::wrong::Wrong;
 use cells::cell::KnownCell;
 use std::alloc::Global;
@@ -36,16 +35,12 @@ pub enum Keyword {
 fn keyword_of(word: &[u8]) -> Result<Keyword, Wrong>
     ensures { MatchResult result (λ k. word.now ≡ keyword_of k) (Unheaded word.now) }
 {
-    if spells(word, "limit") {
-        Ok(Keyword::Limit)
-    } else if spells(word, "table") {
-        Ok(Keyword::Table)
-    } else if spells(word, "cell") {
-        Ok(Keyword::Cell)
-    } else if spells(word, "board") {
-        Ok(Keyword::Board)
-    } else {
-        Err(Wrong::UnknownWord)
+    match word {
+        b"limit" => Ok(Keyword::Limit),
+        b"table" => Ok(Keyword::Table),
+        b"cell" => Ok(Keyword::Cell),
+        b"board" => Ok(Keyword::Board),
+        _ => Err(Wrong::UnknownWord),
     }
 }
 
@@ -53,8 +48,10 @@ fn keyword_of(word: &[u8]) -> Result<Keyword, Wrong>
 fn limit_of(words: &[&[u8]]) -> Result<u32, Wrong>
     ensures { MatchResult result (SaysLimit (texts words.now)) (RefusesLimit (texts words.now)) }
 {
-    exactly(words, 1)?;
-    number_of(words[0])
+    let [number] = words else {
+        return Err(miscounted(words.len(), 1));
+    };
+    number_of(number)
 }
 
 // What the words after a keyword say.
@@ -81,9 +78,9 @@ fn said_after(
 fn said(heap: Global, line: usize, words: &[&[u8]]) -> Result<JobLine, Wrong>
     ensures { MatchResult result (Says line (texts words.now)) (Refuses (texts words.now)) }
 {
-    match words.split_first() {
-        Some((first, rest)) => said_after(heap, line, keyword_of(first)?, rest),
-        None => Ok(JobLine::Nothing),
+    match words {
+        [first, rest @ ..] => said_after(heap, line, keyword_of(first)?, rest),
+        [] => Ok(JobLine::Nothing),
     }
 }
 
@@ -92,6 +89,5 @@ pub fn line_of(heap: Global, line: usize, bytes: &[u8]) -> Result<JobLine, Wrong
     ensures { MatchResult result (SaysLine line bytes.now) (RefusesLine bytes.now) }
 {
     let words = words_of(heap, bytes)?;
-    let what = said(heap, line, words.as_slice())?;
-    Ok(what)
+    said(heap, line, words.as_slice())
 }

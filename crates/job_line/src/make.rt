@@ -1,12 +1,14 @@
 // The make of a board's store.
-ghost use Rattle.std.specs.Prelude.{◌≡◌, ℕ, ◌∷◌, ◌++◌, MatchOption, MatchResult};
+ghost use Rattle.std.specs.Prelude.{◌≡◌, ℕ, ◌∷◌, ◌++◌, Some, MatchOption, MatchResult};
 ghost use Rattle.std.specs.Option.{SomeIff};
 ghost use Rattle.fields.specs.Numbers.{number_of};
-ghost use Rattle.job_line.specs.Makes.{Byte, FromTo, name_of, Writes, Unnamed, Unmade, RefusesMake};
+ghost use Rattle.job_line.specs.Makes.{Byte, FromTo, name_of, Writes, Unnamed, RefusesMake};
+ghost use Rattle.job_line.specs.MakeTexts.{text_of};
 
-use crate::split::{spells, split_once};
+use crate::split::split_once;
 use crate::wrong::Wrong;
 use fields::number::unsigned;
+use std::fmt;
 
 /// Which store a board has.
 #[derive(Clone, Copy, PartialEq, Eq, Debug)]
@@ -17,6 +19,19 @@ pub enum Make {
     /// Two sheets side by side, the second from that location on.
     Neighbours(u8),
     Pairs,
+}
+
+impl fmt::Display for Make {
+    ghost output = { λ m. Some (text_of m) };
+
+    fn fmt<W: fmt::Write>(&self, f: &mut fmt::Formatter<W>) -> fmt::Result {
+        match self {
+            Make::Sheet => write!(f, "sheet"),
+            Make::Cover(first, last) => write!(f, "cover:{first}:{last}"),
+            Make::Neighbours(split) => write!(f, "neighbours:{split}"),
+            Make::Pairs => write!(f, "pairs"),
+        }
+    }
 }
 
 /// The makes, without their parameters.
@@ -39,16 +54,12 @@ pub(crate) fn byte_of(word: &[u8]) -> Option<u8>
 fn kind_of(name: &[u8]) -> Result<Kind, Wrong>
     ensures { MatchResult result (λ k. name.now ≡ name_of k) (Unnamed name.now) }
 {
-    if spells(name, "sheet") {
-        Ok(Kind::Sheet)
-    } else if spells(name, "cover") {
-        Ok(Kind::Cover)
-    } else if spells(name, "neighbours") {
-        Ok(Kind::Neighbours)
-    } else if spells(name, "pairs") {
-        Ok(Kind::Pairs)
-    } else {
-        Err(Wrong::UnknownMake)
+    match name {
+        b"sheet" => Ok(Kind::Sheet),
+        b"cover" => Ok(Kind::Cover),
+        b"neighbours" => Ok(Kind::Neighbours),
+        b"pairs" => Ok(Kind::Pairs),
+        _ => Err(Wrong::UnknownMake),
     }
 }
 
@@ -61,30 +72,27 @@ fn cover_parameters(parameters: &[u8]) -> Option<(u8, u8)>
 }
 
 // The make without parameters.
-fn bare_make(kind: Kind) -> Result<Make, Wrong>
-    ensures { MatchResult result (Writes (name_of kind)) (Unmade (name_of kind)) }
+fn bare_make(kind: Kind) -> Option<Make>
+    ensures { MatchOption result ((m : Make) → Writes (name_of kind) m → ⊥) (Writes (name_of kind)) }
 {
     match kind {
-        Kind::Sheet => Ok(Make::Sheet),
-        Kind::Pairs => Ok(Make::Pairs),
-        Kind::Cover | Kind::Neighbours => Err(Wrong::BadParameters),
+        Kind::Sheet => Some(Make::Sheet),
+        Kind::Pairs => Some(Make::Pairs),
+        Kind::Cover | Kind::Neighbours => None,
     }
 }
 
 // The make with the parameters that stand after its name and a colon.
-fn make_with(kind: Kind, parameters: &[u8]) -> Result<Make, Wrong>
-    ensures { MatchResult result (Writes (name_of kind ++ 58 ∷ parameters.now)) (Unmade (name_of kind ++ 58 ∷ parameters.now)) }
+fn make_with(kind: Kind, parameters: &[u8]) -> Option<Make>
+    ensures { MatchOption result ((m : Make) → Writes (name_of kind ++ 58 ∷ parameters.now) m → ⊥) (Writes (name_of kind ++ 58 ∷ parameters.now)) }
 {
     match kind {
-        Kind::Cover => match cover_parameters(parameters) {
-            Some((first, last)) => Ok(Make::Cover(first, last)),
-            None => Err(Wrong::BadParameters),
-        },
-        Kind::Neighbours => match byte_of(parameters) {
-            Some(split) => Ok(Make::Neighbours(split)),
-            None => Err(Wrong::BadParameters),
-        },
-        Kind::Sheet | Kind::Pairs => Err(Wrong::BadParameters),
+        Kind::Cover => {
+            let (first, last) = cover_parameters(parameters)?;
+            Some(Make::Cover(first, last))
+        }
+        Kind::Neighbours => Some(Make::Neighbours(byte_of(parameters)?)),
+        Kind::Sheet | Kind::Pairs => None,
     }
 }
 
@@ -92,8 +100,9 @@ fn make_with(kind: Kind, parameters: &[u8]) -> Result<Make, Wrong>
 pub(crate) fn make_of(word: &[u8]) -> Result<Make, Wrong>
     ensures { MatchResult result (Writes word.now) (RefusesMake word.now) }
 {
-    match split_once(word, b':') {
+    let make = match split_once(word, b':') {
         Some((name, parameters)) => make_with(kind_of(name)?, parameters),
         None => bare_make(kind_of(word)?),
-    }
+    };
+    make.ok_or(Wrong::BadParameters)
 }

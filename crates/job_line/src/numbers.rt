@@ -17,10 +17,7 @@ pub(crate) const MOST_PLACES: u32 = 1_000_000;
 pub(crate) fn number_of(word: &[u8]) -> Result<u32, Wrong>
     ensures { Reads result (Word word.now) (number_of word.now) NotWord }
 {
-    match unsigned(word) {
-        Some(n) => Ok(n),
-        None => Err(Wrong::NotWord),
-    }
+    unsigned(word).ok_or(Wrong::NotWord)
 }
 
 /// The number of places that the word writes.

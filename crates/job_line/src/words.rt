@@ -1,5 +1,5 @@
 // A line cut into words.
-ghost use Rattle.std.specs.Prelude.{◌≡◌, ◌<◌, length, Decides, MatchResult};
+ghost use Rattle.std.specs.Prelude.{◌≡◌, ◌≢◌, ◌<◌, length, Decides, MatchResult};
 ghost use Rattle.std.specs.Vec as vecs;
 ghost use Rattle.std.specs.List.{AllByRecursion};
 ghost use Rattle.job_line.specs.declared.wrong.Wrong.TheVariants.{Memory};
@@ -7,19 +7,18 @@ ghost use Rattle.job_line.specs.Words.{Plain, MarksComment, CodeEnds, CodeOf, te
 
 use crate::wrong::Wrong;
 use fields::blank::is_blank;
-use fields::span::{Span, next_field};
+use fields::iter::Fields;
 use std::alloc::Global;
 
-/// Whether there are just so many words.
-pub(crate) fn exactly(words: &[&[u8]], count: usize) -> Result<(), Wrong>
-    ensures { MatchResult result (λ _. length words.now ≡ count) (Miscounted (length words.now) count) }
+/// What is wrong with so many words, where another number is wanted.
+pub(crate) fn miscounted(have: usize, want: usize) -> Wrong
+    requires { have ≢ want }
+    ensures { Miscounted have want result }
 {
-    if words.len() < count {
-        Err(Wrong::Missing)
-    } else if words.len() > count {
-        Err(Wrong::TooMany)
+    if have < want {
+        Wrong::Missing
     } else {
-        Ok(())
+        Wrong::TooMany
     }
 }
 
@@ -27,22 +26,14 @@ pub(crate) fn exactly(words: &[&[u8]], count: usize) -> Result<(), Wrong>
 fn is_plain(b: u8) -> bool
     ensures { Decides result (Plain b) }
 {
-    match b {
-        b' '..=b'~' | b'\t' | b'\r' => true,
-        _ => false,
-    }
+    matches!(b, b' '..=b'~' | b'\t' | b'\r')
 }
 
 // Whether all of them may.
 fn all_plain(bytes: &[u8]) -> bool
     ensures { Decides result (AllByRecursion Plain bytes.now) }
 {
-    for b in bytes {
-        if !is_plain(*b) {
-            return false;
-        }
-    }
-    true
+    bytes.iter().all(|b| is_plain(*b))
 }
 
 // Whether a comment can begin at that byte: at a `#` with nothing or a blank before it.
@@ -57,19 +48,16 @@ fn marks_comment(line: &[u8], at: usize) -> bool
 fn code_end(line: &[u8]) -> usize
     ensures { CodeEnds line.now result }
 {
-    for at in 0..line.len() {
-        if marks_comment(line, at) {
-            return at;
-        }
-    }
-    line.len()
+    (0..line.len())
+        .find(|at| marks_comment(line, *at))
+        .unwrap_or(line.len())
 }
 
 // The line up to its comment.
 fn code_of(line: &[u8]) -> &[u8]
     ensures { CodeOf line.now result.now }
 {
-    &line[0..code_end(line)]
+    &line[..code_end(line)]
 }
 
 // The fields of a text.
@@ -77,10 +65,8 @@ fn cut(heap: Global, text: &[u8]) -> Result<Vec<&[u8]>, Wrong>
     ensures { MatchResult result (λ v. WordsOf text.now (texts (vecs.vec_items v))) (λ e. e ≡ Memory) }
 {
     let mut words = Vec::new(heap);
-    let mut at = 0;
-    while let Some(Span { start, end }) = next_field(text, at) {
-        words.push(&text[start..end])?;
-        at = end;
+    for field in Fields::of(text) {
+        words.push(field.bytes(text))?;
     }
     Ok(words)
 }

@@ -1,9 +1,10 @@
 // What can be wrong with a job.
-ghost use Rattle.std.specs.Prelude.{◌≡◌};
+ghost use Rattle.std.specs.Prelude.{◌≡◌, Some};
 ghost use Rattle.job_line.specs.declared.wrong.Wrong.TheVariants.{Memory};
 ghost use Rattle.job_line.specs.Messages.{words_of};
 
 use std::alloc::{AllocError, AllocFailed};
+use std::fmt;
 
 /// What is wrong with a line of a job, or with the job at that line.
 #[derive(Clone, Copy, PartialEq, Eq, Debug)]
@@ -54,8 +55,8 @@ impl<T: Drop> From<AllocFailed<T>> for Wrong {
 }
 
 impl Wrong {
-    /// The same in words, for a message.
-    pub fn words(self) -> &'static str
+    // The same in words, for a message.
+    fn words(self) -> &'static str
         ensures { result.now ≡ words_of self }
     {
         match self {
@@ -82,5 +83,13 @@ impl Wrong {
             Wrong::NoBoard => "there is no board line",
             Wrong::Memory => "out of memory",
         }
+    }
+}
+
+impl fmt::Display for Wrong {
+    ghost output = { λ e. Some (words_of e) };
+
+    fn fmt<W: fmt::Write>(&self, f: &mut fmt::Formatter<W>) -> fmt::Result {
+        f.write_str(self.words())
     }
 }

@@ -9,13 +9,9 @@ use std::test::Fail;
 
 // That the line for the text is that one.
 fn tells(rt: &impl Abort, heap: Global, text: &[u8], line: &str) -> Result<(), Fail> {
-    match checked(heap, text) {
-        Ok(told) => {
-            assert!(rt; told.as_str() == line);
-            Ok(())
-        },
-        Err(_) => Err(Fail::new("no line")),
-    }
+    let told = checked(heap, text)?;
+    assert!(rt; told.as_str() == line);
+    Ok(())
 }
 
 #[test]
@@ -31,11 +27,9 @@ fn bad_word_on_the_third_line(rt: HostRuntime) -> Result<(), Fail> {
     let heap = rt.alloc();
     let text = b"7 0 0 0\n\n0 +\xff 0 0\n";
     let field = Span { start: 11, end: 13 };
-    if let Err(e) = checked(heap, text) {
-        assert_eq!(rt; e, ReadError::NoNumber(field));
-        let message = complaint(heap, text, field)?;
-        assert!(rt; message.as_str() == "line 3, column 3: +\\xff is no 32-bit number");
-        return Ok(());
-    }
-    Err(Fail::new("read"))
+    let refused = checked(heap, text).err();
+    assert_eq!(rt; refused, Some(ReadError::NoNumber(field)));
+    let message = complaint(heap, text, field)?;
+    assert!(rt; message.as_str() == "line 3, column 3: +\\xff is no 32-bit number");
+    Ok(())
 }

@@ -1,9 +1,7 @@
-use Rattle.std.proofs.Common.{◌-◌, length, vec_items}
-use Rattle.fields.specs.Reading.{ReadTo}
+-- The fields so far are numbers, and these are they.
+use Rattle.std.proofs.Common.{◌≡◌, vec_items}
+use Rattle.fields.specs.Reading.{Words, values_of}
 use Rattle.fields.proofs.read.unsigned_fields.Given as goal
 
-abbrev pub invariant-loop-values : goal.invariant-loop-values
-invariant-loop-values l = ReadTo l.text l.at (vec_items l.values)
-
-abbrev pub decreases-loop-values : goal.decreases-loop-values
-decreases-loop-values l = length l.text - l.at
+abbrev pub invariant-loop-field : goal.invariant-loop-field
+invariant-loop-field l = record { words : Words l.text l.yielded; same : vec_items l.values ≡ values_of l.text l.yielded }

@@ -1,31 +1,33 @@
-use Rattle.std.proofs.Common.{refl}
-use Rattle.std.proofs.lemmas.Result.{err_from_is_err_and}
-use Rattle.job_line.proofs.BoardWords.{lost_words, lost_make, lost_control, lost_results, lost_slices, all_said}
+use Rattle.std.proofs.Common.{refl, arith}
+use Rattle.std.proofs.lemmas.Grind.{common_steps}
+use Rattle.std.proofs.lemmas.List.{drop-map}
+use Rattle.job_line.specs.BoardLines.RefusesBoard.{few, no_make, no_control, no_results, no_slices}
+use Rattle.job_line.specs.Makes.{Writes}
+use Rattle.job_line.proofs.Listed.{told, word_is, length_texts}
 use Rattle.job_line.proofs.board_line.board_of.Goals as goal
 
-pub returns-then-words-lt3 : goal.returns-then-words-lt3
-returns-then-words-lt3 c = lost_words c.args.words.now c.if-words-lt3.true
+pub returns-in_default : goal.returns-in_default
+returns-in_default c = grind (arith, common_steps, few, length_texts)
 
-pub returns-in_err-make : goal.returns-in_err-make
-returns-in_err-make c =
-    let left = err_from_is_err_and c.from_residual.result c.from_residual.ensures.1 in
-    rw (left.1, left.2) (lost_make c.args.words.now c.if-words-lt3.false c.in_err-make.field-0.0 c.in_err-make.ensures)
+pub returns-in_err-make_of : goal.returns-in_err-make_of
+returns-in_err-make_of c = grind (arith, common_steps, no_make, word_is)
 
-pub returns-in_err-control : goal.returns-in_err-control
-returns-in_err-control c =
-    let left = err_from_is_err_and c.from_residual-in_err-control.result c.from_residual-in_err-control.ensures.1 in
-    rw (left.1, left.2) (lost_control c.args.words.now c.if-words-lt3.false c.in_err-control.field-0.0 c.in_err-control.ensures)
+pub returns-in_err-places_of : goal.returns-in_err-places_of
+returns-in_err-places_of c = grind (arith, common_steps, no_control, word_is)
 
-pub returns-in_err-results : goal.returns-in_err-results
-returns-in_err-results c =
-    let left = err_from_is_err_and c.from_residual-in_err-results.result c.from_residual-in_err-results.ensures.1 in
-    rw (left.1, left.2) (lost_results c.args.words.now c.if-words-lt3.false c.in_err-results.field-0.0 c.in_err-results.ensures)
+pub returns-in_err-places_of-2 : goal.returns-in_err-places_of-2
+returns-in_err-places_of-2 c = grind (arith, common_steps, no_results, word_is)
 
-pub returns-in_err-slices : goal.returns-in_err-slices
-returns-in_err-slices c =
-    let left = err_from_is_err_and c.from_residual-in_err-slices.result c.from_residual-in_err-slices.ensures.1 in
-    rw (left.1, left.2) (lost_slices c.args.words.now c.if-words-lt3.false c.in_err-slices.field-0.0 c.in_err-slices.ensures)
+pub returns-in_err-numbers_of : goal.returns-in_err-numbers_of
+returns-in_err-numbers_of c = grind (arith, common_steps, no_slices, drop-map)
 
 pub returns : goal.returns
 returns c =
-    all_said c.args.words.now c.if-words-lt3.false _ c.in_ok-make.ensures c.in_ok-control.ensures c.in_ok-results.ensures c.in_ok-slices.ensures c.args.line refl
+    record {
+      three = grind (arith, common_steps, length_texts);
+      numbered = refl;
+      make = told (λ w. Writes w c.in_ok-make_of.field-0) c.args.words.now 0 (omega arith) c.in_ok-make_of.ensures;
+      control = grind (arith, common_steps, word_is);
+      results = grind (arith, common_steps, word_is);
+      slices = grind (arith, common_steps, drop-map);
+    }

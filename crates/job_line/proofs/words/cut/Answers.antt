@@ -1,17 +1,18 @@
-use Rattle.std.proofs.Common.{vec_items, sym, ap, ◌∙◌, subst}
-use Rattle.std.proofs.lemmas.List.{map_push}
-use Rattle.job_line.specs.Words.{texts}
-use Rattle.job_line.proofs.Cutting.{CutTo, cut_none, cut_more, cut_all}
+use Rattle.std.proofs.Common.{arith}
+use Rattle.fields.specs.Spans.{FieldsOf}
+use Rattle.fields.proofs.Given.{gone_all, next_given, none_given}
+use Rattle.fields.proofs.Sole.{sole}
 use Rattle.job_line.proofs.words.cut.Goals as goal
 
-pub loop-start-init : goal.loop-start-init
-loop-start-init c =
-    subst (λ ws. CutTo c.args.text.now 0 ws) (sym (ap texts c.new-words.ensures.items)) (cut_none c.args.text.now)
-
-pub loop-start-preserved : goal.loop-start-preserved
-loop-start-preserved c =
-    cut_more c.loop-start.invariant c.in-Some.ensures (texts (vec_items c.push.new.self))
-    (ap texts c.in_ok-push.ensures.items ∙ map_push (λ w. w.now) (vec_items c.loop-start.words) _)
+pub bytes-requires : goal.bytes-requires
+bytes-requires c =
+    let given = gone_all _ _ _ _ c.loop-field.yielded c.of-field-items.ensures c.into_iter-field-iterator.ensures.into_iter_gives c.loop-field.yielded_by in
+    let next = next_given given c.in-Some.field c.in-Some.ensures.steps.0 in
+    (omega (arith, next.order.1), next.order.2)
 
 pub returns : goal.returns
-returns c = cut_all c.loop-start.invariant c.in_default.ensures
+returns c =
+    let text = c.args.text.now in
+    let given = gone_all _ _ _ _ c.loop-field.yielded c.of-field-items.ensures c.into_iter-field-iterator.ensures.into_iter_gives c.loop-field.yielded_by in
+    let all : FieldsOf text c.loop-field.yielded = (given.turn, none_given given c.in-None.ensures.steps.0) in
+    record { fields = c.loop-field.yielded; all = all; sole = λ gs. sole text c.loop-field.yielded gs all; same = c.loop-field.invariant }

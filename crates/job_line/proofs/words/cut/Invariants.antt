@@ -1,10 +1,8 @@
-use Rattle.std.proofs.Common.{◌-◌, length, vec_items}
+-- The words are the bytes of the fields so far.
+use Rattle.std.proofs.Common.{◌≡◌, map, vec_items}
+use Rattle.fields.specs.Spans.{bytes_of}
 use Rattle.job_line.specs.Words.{texts}
-use Rattle.job_line.proofs.Cutting.{CutTo}
 use Rattle.job_line.proofs.words.cut.Given as goal
 
-abbrev pub invariant-loop-start : goal.invariant-loop-start
-invariant-loop-start l = CutTo l.text l.at (texts (vec_items l.words))
-
-abbrev pub decreases-loop-start : goal.decreases-loop-start
-decreases-loop-start l = length l.text - l.at
+abbrev pub invariant-loop-field : goal.invariant-loop-field
+invariant-loop-field l = texts (vec_items l.words) ≡ map (bytes_of l.text) l.yielded
