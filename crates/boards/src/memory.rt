@@ -1,10 +1,15 @@
 // The memory that a board lends to its store, its stacks and its plan.
-use cells::cell::Cell;
-use history::board::{Seen, Turn};
+use crate::board_store::BoardStore;
+use cells::cell::{Cell, KnownCell};
+use history::turn::{Seen, Turn};
 use job::{BoardLine, Make};
+use pair_list::pairs::PairList;
 use semantics::item::{Control, Item};
 use sheet::record::Record;
-use std::alloc;
+use sheet::sheet::Sheet;
+use std::alloc::{AllocError, Global};
+use store::cover::Cover;
+use store::neighbours::Neighbours;
 
 /// What a board has besides its cells.
 #[derive(Drop)]
@@ -14,24 +19,15 @@ pub struct Scratch {
     pub turns: Vec<Turn>,
 }
 
-/// What its cells lie in: records of a sheet, records of the sheet next to it, and words of pairs. A
-/// make uses what it needs of these.
-#[derive(Drop)]
-pub struct CellMemory {
-    pub records: [Record; 256],
-    pub next: [Record; 256],
-    pub words: Vec<i32>,
-}
-
 impl Scratch {
     /// As many places and turns as the line asks for.
-    pub fn new(heap: alloc::Global, board: &BoardLine) -> Result<Scratch, alloc::AllocError> {
+    pub fn new(heap: Global, board: &BoardLine) -> Result<Scratch, AllocError> {
         let mut control = Vec::new(heap);
         control.resize(board.control, Control::Whole(0))?;
         let mut results = Vec::new(heap);
         results.resize(board.results, Item::Row(0))?;
         let mut turns = Vec::new(heap);
-        for slice in board.slices.as_slice() {
+        for slice in &board.slices {
             turns.push(Turn {
                 slice: *slice,
                 seen: Seen::Unused,
@@ -45,6 +41,15 @@ impl Scratch {
     }
 }
 
+/// What its cells lie in: records of a sheet, records of the sheet next to it, and words of pairs. A
+/// make uses what it needs of these.
+#[derive(Drop)]
+pub struct CellMemory {
+    records: [Record; 256],
+    next: [Record; 256],
+    words: Vec<i32>,
+}
+
 // The location at which the second of two neighbours begins; past the last, where there is one store only.
 fn split(make: Make) -> usize {
     match make {
@@ -53,34 +58,55 @@ fn split(make: Make) -> usize {
     }
 }
 
+// Records of those cells, from the first record on; the others are of unknown cells.
+fn records_of(cells: &[Cell]) -> [Record; 256] {
+    let mut records = [Record::blank(); 256];
+    for (record, cell) in records.iter_mut().zip(cells) {
+        if let Cell::Known(known) = cell {
+            *record = Record::from(*known);
+        }
+    }
+    records
+}
+
 impl CellMemory {
     /// The cells, laid out as the make has them.
     pub fn new(
-        heap: alloc::Global,
+        heap: Global,
         make: Make,
         cells: &[Cell; 256],
-    ) -> Result<CellMemory, alloc::AllocError> {
-        let mut records = [Record::blank(); 256];
-        let mut next = [Record::blank(); 256];
+    ) -> Result<CellMemory, AllocError> {
+        let (own, others) = cells.split_at(split(make));
         let mut words = Vec::new(heap);
-        let at = split(make);
-        for i in 0..256usize {
-            if let Cell::Known(cell) = cells[i] {
-                if i < at {
-                    records[i] = Record::new(cell);
-                } else {
-                    next[i - at] = Record::new(cell);
-                }
-                if let Some(n) = cell.content {
-                    words.push(i as i32)?;
-                    words.push(n)?;
-                }
+        for (i, cell) in cells.iter().enumerate() {
+            if let Cell::Known(KnownCell {
+                content: Some(n), ..
+            }) = cell
+            {
+                words.push(i as i32)?;
+                words.push(*n)?;
             }
         }
         Ok(CellMemory {
-            records,
-            next,
+            records: records_of(own),
+            next: records_of(others),
             words,
         })
+    }
+
+    /// The store of the make, over this memory.
+    pub fn store(&mut self, make: Make) -> BoardStore<'_> {
+        match make {
+            Make::Sheet => BoardStore::Sheet(Sheet::new(&mut self.records)),
+            Make::Cover(first, last) => {
+                BoardStore::Cover(Cover::new(Sheet::new(&mut self.records), first, last))
+            }
+            Make::Neighbours(split) => BoardStore::Neighbours(Neighbours::new(
+                Sheet::new(&mut self.records),
+                Sheet::new(&mut self.next),
+                split,
+            )),
+            Make::Pairs => BoardStore::Pairs(PairList::new(self.words.as_mut_slice())),
+        }
     }
 }

@@ -1,10 +1,9 @@
 // Whether the boards have come to one result.
-use crate::bench::{Outcome, Standing};
-use cells::cell::Cell;
-use machine::run::Ended;
+use crate::bench::Outcome;
+use std::fmt;
 
 /// What is said of all boards.
-#[derive(Clone, Copy)]
+#[derive(Clone, Copy, PartialEq, Eq, Debug)]
 pub enum Verdict {
     /// All have ended, with one end, row, location and count, and with equal cells.
     Agree,
@@ -14,42 +13,34 @@ pub enum Verdict {
     Undecided,
 }
 
-impl Verdict {
-    pub fn words(self) -> &'static str {
+impl fmt::Display for Verdict {
+    fn fmt<W: fmt::Write>(&self, f: &mut fmt::Formatter<W>) -> fmt::Result {
         match self {
-            Verdict::Agree => "agree",
-            Verdict::Differ => "differ",
-            Verdict::Undecided => "undecided",
+            Verdict::Agree => write!(f, "agree"),
+            Verdict::Differ => write!(f, "differ"),
+            Verdict::Undecided => write!(f, "undecided"),
         }
     }
 }
 
-fn ended(outcome: &Outcome) -> Option<Ended> {
-    match outcome.standing {
-        Standing::Ended(ended) => Some(ended),
-        _ => None,
-    }
-}
-
-fn equal_cells(a: &[Cell; 256], b: &[Cell; 256]) -> bool {
-    for i in 0..256usize {
-        if a[i] != b[i] {
-            return false;
-        }
-    }
-    true
+// Whether the two have come to one end, and left equal cells.
+fn same_result(one: &Outcome, other: &Outcome) -> bool {
+    one.standing.ended() == other.standing.ended() && one.cells == other.cells
 }
 
 /// The verdict on boards, of which the first is held against each other one.
 pub fn verdict_on(outcomes: &[Outcome]) -> Verdict {
-    let mut said = Verdict::Agree;
-    for outcome in outcomes {
-        let (Some(mine), Some(first)) = (ended(outcome), ended(&outcomes[0])) else {
-            return Verdict::Undecided;
-        };
-        if mine != first || !equal_cells(&outcome.cells, &outcomes[0].cells) {
-            said = Verdict::Differ;
-        }
+    let Some((first, others)) = outcomes.split_first() else {
+        return Verdict::Agree;
+    };
+    if outcomes
+        .iter()
+        .any(|outcome| outcome.standing.ended().is_none())
+    {
+        Verdict::Undecided
+    } else if others.iter().all(|other| same_result(first, other)) {
+        Verdict::Agree
+    } else {
+        Verdict::Differ
     }
-    said
 }

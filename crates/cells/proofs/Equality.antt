@@ -1,11 +1,10 @@
 -- A derived `==` decides whether two cells are one.
-use Rattle.std.proofs.Common.{◌≡◌, Bool, true, false, ◌&&◌, ℤ, Option, Some, None, Decides, refl, ap, ◌∙◌, arith, rules}
+use Rattle.std.proofs.Common.{◌≡◌, Bool, ℤ, Option, Some, None, Decides, rules}
 use Rattle.std.specs.Option.{option_eq}
 use Rattle.std.specs.Ordering.{int_eq}
 use Rattle.std.proofs.lemmas.Bool.Decides.{Decides-and, Decides-int_eq, Decides-like}
 use Rattle.cells.specs.declared.cell.Mark.{Mark}
 use Rattle.cells.specs.declared.cell.Mark.TheVariants.{Free, Fixed}
-use Rattle.cells.specs.declared.cell.KnownCell.{KnownCell}
 use Rattle.cells.specs.declared.cell.Cell.{Cell}
 use Rattle.cells.specs.declared.cell.Cell.TheVariants.{Unknown, Known}
 use Rattle.cells.specs.contracts.cell.MarkPartialEq.TheImpl as mark
@@ -35,7 +34,7 @@ cell_Decides Unknown (Known k) = search rules
 cell_Decides (Known h) Unknown = search rules
 cell_Decides (Known h) (Known k) =
     let parts =
-        Decides-and _ _ (Decides-int_eq h.lowest k.lowest)
-        (Decides-and _ _ (Decides-int_eq h.highest k.highest) (Decides-and _ _ (mark_Decides h.mark k.mark) (content_Decides h.content k.content))) in
+    Decides-and _ _ (Decides-int_eq h.lowest k.lowest)
+    (Decides-and _ _ (Decides-int_eq h.highest k.highest) (Decides-and _ _ (mark_Decides h.mark k.mark) (content_Decides h.content k.content))) in
     let whole : (h.lowest ≡ k.lowest) × ((h.highest ≡ k.highest) × ((h.mark ≡ k.mark) × (h.content ≡ k.content))) → Known h ≡ Known k = λ e. search rules in
     Decides-like _ whole (λ e. let same : h ≡ k = cc in search rules) parts

@@ -39,7 +39,7 @@ impl KnownCell {
     pub fn within(self, number: i32) -> bool
         ensures { result ≡ within self number }
     {
-        self.lowest <= number && number <= self.highest
+        (self.lowest..=self.highest).contains(&number)
     }
 }
 
@@ -72,13 +72,8 @@ impl Cell {
         };
         match cell.mark {
             Mark::Fixed => Err(StoreFault::FixedCell(location)),
-            Mark::Free => {
-                if cell.within(number) {
-                    Ok(())
-                } else {
-                    Err(StoreFault::OutsideLimits(location))
-                }
-            }
+            Mark::Free if cell.within(number) => Ok(()),
+            Mark::Free => Err(StoreFault::OutsideLimits(location)),
         }
     }
 

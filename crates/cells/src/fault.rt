@@ -4,6 +4,7 @@ ghost use Rattle.std.specs.Prelude.{◌≡◌};
 ghost use Rattle.cells.specs.Faults.{number_of, location_of, relocated};
 
 /// The question about a cell that got a no, with the location that it was asked of.
+// Each variant has the location, and no struct has it beside a question: this is the documented form of an answer.
 #[derive(Clone, Copy, PartialEq, Eq, Debug)]
 pub enum StoreFault {
     /// The store knows no cell there.

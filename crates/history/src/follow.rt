@@ -115,8 +115,8 @@ pub fn follow<S: Store>(
 ) -> Fate
     ensures follows { Follows (table_of program.now) (places machine.old.stacks.control) (places machine.old.stacks.results) limit (configuration S.cells machine.old) turns.old result turns.new (configuration S.cells machine.new) }
     ensures keeps { Keeps S.rests machine.old machine.new }
-    ensures history { IfBegun result (configuration S.cells machine.new) (History (table_of program.now) (places machine.old.stacks.control) (places machine.old.stacks.results) limit (S.cells machine.old.store) (used turns.new)) }
-    ensures kept { IfBegun result (configuration S.cells machine.new) (Kept (table_of program.now) (S.cells machine.old.store) limit (used turns.new)) }
+    ensures history { IfBegun result (configuration S.cells machine.new) (History (table_of program.now) (places machine.old.stacks.control) (places machine.old.stacks.results) limit (S.cells machine.old.store.now) (used turns.new)) }
+    ensures kept { IfBegun result (configuration S.cells machine.new) (Kept (table_of program.now) (S.cells machine.old.store.now) limit (used turns.new)) }
 {
     carry_out(program, machine, limit, turns)
 }

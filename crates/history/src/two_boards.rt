@@ -25,7 +25,7 @@ fn follow_both<A: Store, B: Store>(
     ensures first { Follows (table_of program.now) (places first.old.stacks.control) (places first.old.stacks.results) limit (configuration A.Store.cells first.old) turns1.old result.0 turns1.new (configuration A.Store.cells first.new) }
     ensures second { Follows (table_of program.now) (places second.old.stacks.control) (places second.old.stacks.results) limit (configuration B.Store.cells second.old) turns2.old result.1 turns2.new (configuration B.Store.cells second.new) }
     ensures keeps { (Keeps A.Store.rests first.old first.new) × (Keeps B.Store.rests second.old second.new) }
-    ensures histories { IfBegun result.0 (configuration A.Store.cells first.new) (History (table_of program.now) (places first.old.stacks.control) (places first.old.stacks.results) limit (A.Store.cells first.old.store) (used turns1.new)) × IfBegun result.1 (configuration B.Store.cells second.new) (History (table_of program.now) (places second.old.stacks.control) (places second.old.stacks.results) limit (B.Store.cells second.old.store) (used turns2.new)) }
+    ensures histories { IfBegun result.0 (configuration A.Store.cells first.new) (History (table_of program.now) (places first.old.stacks.control) (places first.old.stacks.results) limit (A.Store.cells first.old.store.now) (used turns1.new)) × IfBegun result.1 (configuration B.Store.cells second.new) (History (table_of program.now) (places second.old.stacks.control) (places second.old.stacks.results) limit (B.Store.cells second.old.store.now) (used turns2.new)) }
 {
     let fate1 = follow(program, first, limit, turns1);
     let fate2 = follow(program, second, limit, turns2);
@@ -47,7 +47,7 @@ pub fn two_boards<A: Store, B: Store>(
     ensures first { Follows (table_of program.now) (places first.old.stacks.control) (places first.old.stacks.results) limit (configuration A.Store.cells first.old) turns1.old result.0 turns1.new (configuration A.Store.cells first.new) }
     ensures second { Follows (table_of program.now) (places second.old.stacks.control) (places second.old.stacks.results) limit (configuration B.Store.cells second.old) turns2.old result.1 turns2.new (configuration B.Store.cells second.new) }
     ensures keeps { (Keeps A.Store.rests first.old first.new) × (Keeps B.Store.rests second.old second.new) }
-    ensures agree { SameCells (A.Store.cells first.old.store) (B.Store.cells second.old.store) → IfBegun result.0 (configuration A.Store.cells first.new) (λ b. IfBegun result.1 (configuration B.Store.cells second.new) (Agree (table_of program.now) limit (A.Store.cells first.old.store) (B.Store.cells second.old.store) (used turns1.new) (used turns2.new) b)) }
+    ensures agree { SameCells (A.Store.cells first.old.store.now) (B.Store.cells second.old.store.now) → IfBegun result.0 (configuration A.Store.cells first.new) (λ b. IfBegun result.1 (configuration B.Store.cells second.new) (Agree (table_of program.now) limit (A.Store.cells first.old.store.now) (B.Store.cells second.old.store.now) (used turns1.new) (used turns2.new) b)) }
 {
     follow_both(program, limit, first, turns1, second, turns2)
 }

@@ -24,7 +24,7 @@ module _ (table : List ℕ) (loaded : Loaded table) where
   -- every row of the table decodes
   pub row_there : (p : ℕ) → p < rows table → (r : Row) × (row_at table p ≡ Some r)
   row_there p h =
-      let s = spelt_at table p (passes p h) (λ _ _. Unit {0}) in (s.spelt, row_within table p h ∙ s.spells)
+      let s = spelt_at table p (passes p h) (λ _ _. Unit {0}) in (s.spelt_row, row_within table p h ∙ s.spells)
 
   -- and no other
   pub row_inside : (p : ℕ) (r : Row) → row_at table p ≡ Some r → p < rows table

@@ -1,15 +1,14 @@
 -- A row that passes: it is there, and its parts lie below it and are of the sorts that it asks.
-use Rattle.std.proofs.Common.{◌≡◌, ℕ, ◌<◌, ◌≤◌, ltb, List, Some, None, ap, subst, ⊎_elim, arith}
-use Rattle.std.proofs.lemmas.Bool.{cases_Bool, lt-ltb, ltb-true, ltb-false, cond-true, cond-false}
-use Rattle.rows.specs.declared.words.Words.{Words}
+use Rattle.std.proofs.Common.{◌≡◌, ℕ, ◌<◌, ltb, List, Some, None, ap, subst}
+use Rattle.std.proofs.lemmas.Bool.{lt-ltb, cond-true}
 use Rattle.rows.specs.declared.row.Sort.{Sort}
 use Rattle.rows.specs.declared.row.Row.{Row}
 use Rattle.rows.specs.declared.row.Row.TheVariants as row
 use Rattle.rows.specs.Parts.{EachPart}
 use Rattle.loading.specs.Questions.{OnPart, OfRow}
 use Rattle.loading.specs.Surveys.{RowPasses}
-use Rattle.rows.specs.Rows.{rows, row_at, words_of, words_at, decoded, sort_at, then}
-use Rattle.loading.proofs.EachKind.{Spelt, passing_spells}
+use Rattle.rows.specs.Rows.{rows, row_at, kind_of, words_at, decoded, sort_at, then}
+use Rattle.loading.proofs.EachKind.{SpeltAs, passing_spells}
 
 -- what follows of each part from two facts
 pub each_both : (Q R P : Sort → ℕ → Type 0) → ((s : Sort) (x : ℕ) → Q s x → R s x → P s x) → (r : Row) → EachPart Q r → EachPart R r → EachPart P r
@@ -31,7 +30,7 @@ pub each_part : (Q P : Sort → ℕ → Type 0) → ((s : Sort) (x : ℕ) → Q 
 each_part Q P f r q = each_both Q Q P (λ s x h _. f s x h) r q q
 
 module _ (table : List ℕ) (p : ℕ) (passes : RowPasses table p) where
-  pub spelt_at : (Q : Sort → ℕ → Type 0) → Spelt Q (words_at table p)
+  pub spelt_at : (Q : Sort → ℕ → Type 0) → SpeltAs Q (words_at table p) (kind_of (words_at table p).kind)
   spelt_at Q = passing_spells Q (words_at table p) passes.0 passes.2
 
   -- what holds of each word that names a part holds of each part
@@ -39,7 +38,7 @@ module _ (table : List ℕ) (p : ℕ) (passes : RowPasses table p) where
   parts_at Q q r e =
       let s = spelt_at Q in
       let f = s.spells in
-      let same : s.spelt ≡ r = cc in
+      let same : s.spelt_row ≡ r = cc in
       subst (EachPart Q) same (s.parts q)
 
   pub parts_lower : (r : Row) → decoded (words_at table p) ≡ Some r → EachPart (λ _ x. x < p) r
@@ -50,17 +49,3 @@ module _ (table : List ℕ) (p : ℕ) (passes : RowPasses table p) where
 
 pub row_within : (table : List ℕ) (p : ℕ) → p < rows table → row_at table p ≡ decoded (words_at table p)
 row_within table p h = ap (λ o. then o decoded) (cond-true (ltb p (rows table)) (Some (words_at table p)) None (lt-ltb p (rows table) h))
-
--- words are found inside the table, and no words past its end
-pub words_there : (table : List ℕ) (p : ℕ) (w : Words) → words_of table p ≡ Some w → (p < rows table) × (w ≡ words_at table p)
-words_there table p w e =
-    ⊎_elim
-    (λ b. (ltb-true p (rows table) b, let n = cond-true (ltb p (rows table)) (Some (words_at table p)) None b in cc))
-    (λ b. let n = cond-false (ltb p (rows table)) (Some (words_at table p)) None b in let z : ◌≡◌ {A = ℕ} 0 1 = cc in absurd (omega arith))
-    (cases_Bool (ltb p (rows table)))
-
-pub words_gone : (table : List ℕ) (p : ℕ) → words_of table p ≡ None → rows table ≤ p
-words_gone table p e =
-    ⊎_elim
-    (λ b. let n = cond-true (ltb p (rows table)) (Some (words_at table p)) None b in let z : ◌≡◌ {A = ℕ} 0 1 = cc in absurd (omega arith))
-    (ltb-false p (rows table)) (cases_Bool (ltb p (rows table)))

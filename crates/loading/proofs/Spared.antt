@@ -9,9 +9,9 @@ use Rattle.rows.specs.Rows.{row_at}
 use Rattle.loading.specs.Stacks.{needed, nothing, of_row, needs_below, needs_at}
 use Rattle.loading.specs.Surveys.{known_of}
 
--- what n rows can need: two places for each, and one
+-- what n rows can need: two places for each
 abbrev pub Within : ℕ → Needs → Type 0
-Within n x = (x.control ≤ 2 * n + 1) × (x.results ≤ 2 * n + 1)
+Within n x = (x.control ≤ 2 * n) × (x.results ≤ 2 * n)
 
 module _ (f : ℕ → Needs) (n : ℕ) (low : (x : ℕ) → Within n (f x)) where
   needed_within : (r : Row) → Within (suc n) (needed f r)
@@ -51,17 +51,22 @@ pub needs_none : (table : List ℕ) (k : ℕ) → needs_below table 0 k ≡ noth
 unfolding needs_below
 needs_none table k = refl
 
--- the list after one row more
-pub known_more : (table : List ℕ) (known : List Needs) (p : ℕ) (v : Needs) → p < length known →
-    ((k : ℕ) → known_of known k ≡ needs_below table p k) → v ≡ of_row (known_of known) (row_at table p) →
-    (k : ℕ) → known_of (set known p v) k ≡ needs_below table (p + 1) k
-unfolding needs_below
-known_more table known p v within same is k =
-    let here : v ≡ of_row (needs_below table p) (row_at table p) = is ∙ ap (λ f. of_row f (row_at table p)) (fun_ext same) in
-    rw add-one
-    (cond_both (eqb k p) _ _ (λ n. known_of (set known p v) k ≡ n)
-    (λ e. subst (λ i. known_of (set known p v) i ≡ of_row (needs_below table p) (row_at table p)) (sym (eqb-true k p e)) (get_or-set_same known p v nothing within ∙ here))
-    (λ e. get_or-set_other known p k v nothing (eqb-false k p e) ∙ same k))
+-- once the row p is worked out, from a list that has the needs of the rows below it
+module _ (table : List ℕ) (known : List Needs) (p : ℕ) (same : (k : ℕ) → known_of known k ≡ needs_below table p k)
+    (r : Row) (row : row_at table p ≡ Some r) (v : Needs) (is : v ≡ needed (known_of known) r) where
+  -- what it needs
+  pub more_within : Within (suc p) v
+  more_within = rw is (needed_within (known_of known) p (λ k. rw (same k) (needs_within table p k)) r)
+
+  -- the list with that
+  pub known_more : p < length known → (k : ℕ) → known_of (set known p v) k ≡ needs_below table (p + 1) k
+  unfolding needs_below
+  known_more within k =
+      let here : v ≡ of_row (needs_below table p) (row_at table p) = is ∙ ap (λ f. needed f r) (fun_ext same) ∙ sym (ap (of_row (needs_below table p)) row) in
+      rw add-one
+      (cond_both (eqb k p) _ _ (λ n. known_of (set known p v) k ≡ n)
+      (λ e. subst (λ i. known_of (set known p v) i ≡ of_row (needs_below table p) (row_at table p)) (sym (eqb-true k p e)) (get_or-set_same known p v nothing within ∙ here))
+      (λ e. get_or-set_other known p k v nothing (eqb-false k p e) ∙ same k))
 
 -- the needs of a row are worked out once, when its turn comes
 pub needs_stay : (table : List ℕ) (n p : ℕ) → p < n → needs_below table n p ≡ needs_at table p

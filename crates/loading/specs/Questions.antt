@@ -1,6 +1,6 @@
 -- The seven questions of loading: when each is asked, in which order, and what a yes says.
 -- A question and its row are told apart by the refusal that a no gives.
-use Rattle.std.specs.Prelude.{◌≡◌, ℕ, ◌+◌, ◌*◌, ◌%◌, ◌<◌, ◌≤◌, List, length, IfSome, Some}
+use Rattle.std.specs.Prelude.{◌≡◌, ℕ, ◌+◌, ◌*◌, ◌%◌, ◌<◌, ◌≤◌, ◌⊎◌, List, length, IfSome, Some}
 use Rattle.rows.specs.declared.row.Sort.{Sort}
 use Rattle.rows.specs.declared.row.Sort.TheVariants.{Command}
 use Rattle.loading.specs.declared.layout.Field.{Field}
@@ -73,6 +73,10 @@ Sorted table = OnPart (λ s x. sort_at table x ≡ Some s)
 -- each of a row's three words passes
 abbrev pub Each : (Field → ℕ → Type 0) → Words → Layout → Type 0
 Each Q w l = Q l.a w.a × Q l.b w.b × Q l.c w.c
+
+-- one of them does
+abbrev pub Any : (Field → ℕ → Type 0) → Words → Layout → Type 0
+Any Q w l = Q l.a w.a ⊎ Q l.b w.b ⊎ Q l.c w.c
 
 -- each of the three words passes, where the row's kind says what they stand for
 abbrev pub OfRow : (Field → ℕ → Type 0) → Words → Type 0

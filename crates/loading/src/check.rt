@@ -1,12 +1,13 @@
 // What loading asks of one row: questions 2 to 6.
-ghost use Rattle.std.specs.Prelude.{◌≡◌, Some, Decides, MatchResult};
-ghost use Rattle.rows.specs.Rows.{words_at, sort_at};
-ghost use Rattle.loading.specs.Questions.{Clear, InRange, Lower, Sorted, Each};
+ghost use Rattle.std.specs.Prelude.{◌≡◌, true, false, Some, Decides, MatchResult};
+ghost use Rattle.std.specs.Bool.{MatchBool};
+ghost use Rattle.rows.specs.Rows.{words_at, decoded, sort_at};
+ghost use Rattle.loading.specs.Questions.{Clear, InRange, Lower, Sorted, Each, Any};
 ghost use Rattle.loading.specs.Surveys.{RowPasses, RowRefused};
 
 use crate::layout::{Field, Layout, layout_of};
 use crate::refusal::Refusal;
-use rows::row::{Sort, row_at};
+use rows::row::{Row, Sort, row_at};
 use rows::words::Words;
 
 impl Field {
@@ -43,7 +44,7 @@ impl Field {
         }
     }
 
-    // Question 6 of one word.
+    // Question 6 of one word. With a `part()` and `is_none_or` for it and for `lower`, `check_row` did not prove.
     fn sorted(self, table: &[u32], w: u32) -> bool
         ensures { Decides result (Sorted table.now self w) }
     {
@@ -55,60 +56,41 @@ impl Field {
 }
 
 // Whether the table has a row `p` of that sort.
+#[tactic(auto, unfolding(rows::specs::Rows::sort_at))]
 pub(crate) fn has_sort(table: &[u32], p: u32, sort: Sort) -> bool
     ensures { Decides result (sort_at table.now p ≡ Some sort) }
 {
-    match row_at(table, p) {
-        Some(row) => row.sort() == sort,
-        None => false,
-    }
+    row_at(table, p).is_some_and(|row| row.sort() == sort)
 }
 
 impl Layout {
-    fn clear(self, w: Words) -> bool
-        ensures { Decides result (Each Clear w self) }
+    // Whether each of the three words passes, with what it stands for.
+    fn all<F: Fn(Field, u32) -> bool>(self, words: Words, passes: F) -> bool
+        requires { F.IsAlwaysCallable passes }
+        ensures { MatchBool result (Each (λ f w. F.post passes f w true) words self) (Any (λ f w. F.post passes f w false) words self) }
     {
-        self.a.clear(w.a) && self.b.clear(w.b) && self.c.clear(w.c)
-    }
-
-    fn in_range(self, w: Words) -> bool
-        ensures { Decides result (Each InRange w self) }
-    {
-        self.a.in_range(w.a) && self.b.in_range(w.b) && self.c.in_range(w.c)
-    }
-
-    fn lower(self, p: u32, w: Words) -> bool
-        ensures { Decides result (Each (Lower p) w self) }
-    {
-        self.a.lower(p, w.a) && self.b.lower(p, w.b) && self.c.lower(p, w.c)
-    }
-
-    fn sorted(self, table: &[u32], w: Words) -> bool
-        ensures { Decides result (Each (Sorted table.now) w self) }
-    {
-        self.a.sorted(table, w.a) && self.b.sorted(table, w.b) && self.c.sorted(table, w.c)
+        passes(self.a, words.a) && passes(self.b, words.b) && passes(self.c, words.c)
     }
 }
 
 // Asks questions 2 to 6 of the row `p`, whose words these are, and stops at the first no.
-pub(crate) fn check_row(table: &[u32], p: u32, words: Words) -> Result<(), Refusal>
+pub(crate) fn check_row(table: &[u32], p: u32, words: Words) -> Result<Row, Refusal>
     requires { words ≡ words_at table.now p }
-    ensures { MatchResult result (λ _. RowPasses table.now p) (RowRefused table.now p) }
+    ensures { MatchResult result (λ row. RowPasses table.now p × (decoded (words_at table.now p) ≡ Some row)) (RowRefused table.now p) }
 {
-    let Some(layout) = layout_of(words.kind) else {
-        return Err(Refusal::Kind(p));
-    };
-    if !layout.clear(words) {
+    let layout = layout_of(words.kind).ok_or(Refusal::Kind(p))?;
+    if !layout.all(words, |field, w| field.clear(w)) {
         return Err(Refusal::Unused(p));
     }
-    if !layout.in_range(words) {
+    if !layout.all(words, |field, w| field.in_range(w)) {
         return Err(Refusal::Range(p));
     }
-    if !layout.lower(p, words) {
+    if !layout.all(words, |field, w| field.lower(p, w)) {
         return Err(Refusal::Forward(p));
     }
-    if !layout.sorted(table, words) {
+    if !layout.all(words, |field, w| field.sorted(table, w)) {
         return Err(Refusal::Mismatch(p));
     }
-    Ok(())
+    // Words that pass spell a row.
+    Ok(Row::try_from(words).unwrap())
 }

@@ -1,7 +1,8 @@
 // How the words of a row are laid out: what each stands for.
 ghost use Rattle.std.specs.Prelude.{◌≡◌};
-ghost use Rattle.loading.specs.Layouts.{laid, layout_of};
+ghost use Rattle.loading.specs.Layouts.{layout_of, layout_for};
 
+use rows::kind::Kind;
 use rows::row::Sort;
 
 /// What one word of a row stands for.
@@ -31,31 +32,34 @@ pub struct Layout {
     pub c: Field,
 }
 
-/// The layout of a kind, where there is such a kind.
-pub fn layout_of(kind: u32) -> Option<Layout>
-    ensures { result ≡ layout_of kind }
-{
-    use Field::*;
-    use Sort::*;
-    match kind {
-        0 => lay(Number, Unused, Unused),
-        1 => lay(Location, Unused, Unused),
-        2 => lay(Operator, Part(Integer), Part(Integer)),
-        3 => lay(Truth, Unused, Unused),
-        4 => lay(Relation, Part(Integer), Part(Integer)),
-        5 => lay(Part(Boolean), Unused, Unused),
-        6 => lay(Part(Boolean), Part(Boolean), Unused),
-        7 => lay(Unused, Unused, Unused),
-        8 => lay(Location, Part(Integer), Unused),
-        9 => lay(Part(Command), Part(Command), Unused),
-        10 => lay(Part(Boolean), Part(Command), Part(Command)),
-        11 => lay(Part(Boolean), Part(Command), Unused),
-        _ => None,
+impl Layout {
+    /// The layout of the rows of a kind.
+    pub fn of(kind: Kind) -> Self
+        ensures { result ≡ layout_for kind }
+    {
+        use Field::*;
+        use Sort::*;
+        let (a, b, c) = match kind {
+            Kind::Number => (Number, Unused, Unused),
+            Kind::Contents => (Location, Unused, Unused),
+            Kind::Arithmetic => (Operator, Part(Integer), Part(Integer)),
+            Kind::Truth => (Truth, Unused, Unused),
+            Kind::Comparison => (Relation, Part(Integer), Part(Integer)),
+            Kind::Not => (Part(Boolean), Unused, Unused),
+            Kind::And => (Part(Boolean), Part(Boolean), Unused),
+            Kind::Skip => (Unused, Unused, Unused),
+            Kind::Assignment => (Location, Part(Integer), Unused),
+            Kind::Sequence => (Part(Command), Part(Command), Unused),
+            Kind::Choice => (Part(Boolean), Part(Command), Part(Command)),
+            Kind::Loop => (Part(Boolean), Part(Command), Unused),
+        };
+        Layout { a, b, c }
     }
 }
 
-fn lay(a: Field, b: Field, c: Field) -> Option<Layout>
-    ensures { result ≡ laid a b c }
+/// The layout of the kind of that number, where there is such a kind.
+pub fn layout_of(kind: u32) -> Option<Layout>
+    ensures { result ≡ layout_of kind }
 {
-    Some(Layout { a, b, c })
+    Kind::try_from(kind).ok().map(Layout::of)
 }

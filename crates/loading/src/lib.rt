@@ -5,4 +5,5 @@ mod check;
 pub mod layout;
 pub mod needs;
 pub mod refusal;
+mod small;
 pub mod survey;

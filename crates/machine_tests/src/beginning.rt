@@ -4,8 +4,8 @@ use machine::run::begin::begin;
 use semantics::item::{Control, Item};
 use sheet::record::Record;
 use sheet::sheet::Sheet;
-use stack::stack::Stack;
 use table::program::Program;
+use transition::machine::Machine;
 
 // The number that begin refuses with, or 0; and how many items are then left on the control stack,
 // on which two were lying.
@@ -14,25 +14,29 @@ fn begun(control_places: usize, results_places: usize, limit: u32) -> (u8, usize
     if program.load(&PUT_SEVEN).is_err() {
         return (1, 0);
     }
-    let mut below = [Control::Whole(0); 4];
-    let mut above = [Item::Row(0); 4];
+    let mut control = [Control::Whole(0); 4];
+    let mut results = [Item::Row(0); 4];
     if control_places > 4 || results_places > 4 {
         return (255, 0);
     }
-    let mut control = Stack::new(&mut below[..control_places]);
-    let mut results = Stack::new(&mut above[..results_places]);
     let mut records = [Record::blank(); 1];
-    let sheet = Sheet::new(&mut records);
-    control.push(Control::Finish(9));
-    control.push(Control::Finish(9));
-    let number = match begin(&program, &mut control, &mut results, &sheet, limit) {
+    let mut sheet = Sheet::new(&mut records);
+    let mut machine = Machine::new(
+        &mut control[..control_places],
+        &mut results[..results_places],
+        &mut sheet,
+    );
+    for _ in 0..2 {
+        let _ = machine.stacks.control.push(Control::Finish(9));
+    }
+    let number = match begin(&program, &mut machine, limit) {
         Ok(running) => {
             running.give_up();
             0
         }
         Err(refusal) => refusal.number(),
     };
-    (number, control.len())
+    (number, machine.stacks.control.len())
 }
 
 // The program needs two places on either stack.

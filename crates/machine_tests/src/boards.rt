@@ -6,8 +6,8 @@ use machine::run::{Progress, Running, TurnedDown};
 use semantics::item::{Control, Item};
 use sheet::record::Record;
 use sheet::sheet::Sheet;
-use stack::stack::Stack;
 use table::program::Program;
+use transition::machine::Machine;
 
 /// l3 := 7
 pub const PUT_SEVEN: [u32; 8] = [0, 7, 0, 0, 8, 3, 0, 0];
@@ -20,12 +20,12 @@ pub const SPIN: [u32; 12] = [3, 1, 0, 0, 7, 0, 0, 0, 11, 0, 1, 0];
 
 /// Free, unset and of the widest limits.
 pub fn plain() -> Record {
-    Record::new(KnownCell::widest(None))
+    Record::from(KnownCell::widest(None))
 }
 
 /// From 0 to 6, holding 5, fixed or free.
 pub fn narrow(mark: Mark) -> Record {
-    Record::new(KnownCell {
+    Record::from(KnownCell {
         lowest: 0,
         highest: 6,
         mark,
@@ -48,12 +48,10 @@ pub fn told(progress: Progress) -> Told {
 pub fn on(
     running: Running,
     program: &Program<'_>,
-    control: &mut Stack<'_, Control>,
-    results: &mut Stack<'_, Item>,
-    sheet: &mut Sheet<'_>,
+    machine: &mut Machine<'_, Sheet<'_>>,
     slice: u32,
 ) -> Told {
-    match go_on(running, program, control, results, sheet, slice) {
+    match go_on(running, program, machine, slice) {
         Ok(progress) => told(progress),
         Err(down) => {
             let number = down.number();
@@ -69,20 +67,12 @@ pub fn run(words: &[u32], records: &mut [Record], limit: u32, slice: u32) -> Tol
     if program.load(words).is_err() {
         return (1, 0, 0, 0);
     }
-    let mut below = [Control::Whole(0); 16];
-    let mut above = [Item::Row(0); 16];
-    let mut control = Stack::new(&mut below);
-    let mut results = Stack::new(&mut above);
+    let mut control = [Control::Whole(0); 16];
+    let mut results = [Item::Row(0); 16];
     let mut sheet = Sheet::new(records);
-    match begin(&program, &mut control, &mut results, &sheet, limit) {
-        Ok(running) => on(
-            running,
-            &program,
-            &mut control,
-            &mut results,
-            &mut sheet,
-            slice,
-        ),
+    let mut machine = Machine::new(&mut control, &mut results, &mut sheet);
+    match begin(&program, &mut machine, limit) {
+        Ok(running) => on(running, &program, &mut machine, slice),
         Err(refusal) => (refusal.number(), 0, 0, 0),
     }
 }

@@ -5,8 +5,8 @@ use machine::run::begin::begin;
 use semantics::item::{Control, Item};
 use sheet::record::Record;
 use sheet::sheet::Sheet;
-use stack::stack::Stack;
 use table::program::Program;
+use transition::machine::Machine;
 
 // A run over stacks that the caller has filled: this item alone on control, two results beneath it.
 fn filled(words: &[u32], item: Control, below_top: Item, top: Item, places: usize) -> Told {
@@ -14,19 +14,18 @@ fn filled(words: &[u32], item: Control, below_top: Item, top: Item, places: usiz
     if program.load(words).is_err() || places > 4 {
         return (1, 0, 0, 0);
     }
-    let mut below = [Control::Whole(0); 4];
-    let mut above = [Item::Row(0); 4];
-    let mut control = Stack::new(&mut below);
-    let mut results = Stack::new(&mut above[..places]);
+    let mut control = [Control::Whole(0); 4];
+    let mut results = [Item::Row(0); 4];
     let mut records = [plain(); 4];
     let mut sheet = Sheet::new(&mut records);
-    match begin(&program, &mut control, &mut results, &sheet, 100) {
+    let mut machine = Machine::new(&mut control, &mut results[..places], &mut sheet);
+    match begin(&program, &mut machine, 100) {
         Ok(running) => {
-            control.clear();
-            control.push(item);
-            results.push(below_top);
-            results.push(top);
-            on(running, &program, &mut control, &mut results, &mut sheet, 1)
+            machine.stacks.control.clear();
+            let _ = machine.stacks.control.push(item);
+            let _ = machine.stacks.results.push(below_top);
+            let _ = machine.stacks.results.push(top);
+            on(running, &program, &mut machine, 1)
         }
         Err(refusal) => (refusal.number(), 0, 0, 0),
     }

@@ -4,9 +4,9 @@ use machine::run::begin::begin;
 use semantics::item::{Control, Item};
 use sheet::record::Record;
 use sheet::sheet::Sheet;
-use stack::stack::Stack;
 use std::test::Fail;
 use table::program::Program;
+use transition::machine::Machine;
 
 #[test]
 fn slice_of_0_moves_nothing(rt: HostRuntime) {
@@ -39,24 +39,13 @@ fn cut_at_the_finish(rt: HostRuntime) {
 #[test]
 fn empty_stacks_have_finished(rt: HostRuntime) -> Result<(), Fail> {
     let program = Program::new();
-    let mut below = [Control::Whole(0); 1];
-    let mut above = [Item::Row(0); 0];
-    let mut control = Stack::new(&mut below);
-    let mut results = Stack::new(&mut above);
+    let mut control = [Control::Whole(0); 1];
+    let mut results = [Item::Row(0); 0];
     let mut records = [Record::blank(); 0];
     let mut sheet = Sheet::new(&mut records);
-    match begin(&program, &mut control, &mut results, &sheet, 5) {
-        Ok(running) => {
-            control.clear();
-            assert_eq!(rt;
-                on(running, &program, &mut control, &mut results, &mut sheet, 0),
-                (0, 0, 0, 0)
-            );
-            Ok(())
-        }
-        Err(_) => {
-            assert!(rt; false);
-            Ok(())
-        },
-    }
+    let mut machine = Machine::new(&mut control, &mut results, &mut sheet);
+    let running = begin(&program, &mut machine, 5).map_err(|_| Fail::new("refused"))?;
+    machine.stacks.control.clear();
+    assert_eq!(rt; on(running, &program, &mut machine, 0), (0, 0, 0, 0));
+    Ok(())
 }

@@ -37,23 +37,11 @@ impl<'a> PairList<'a> {
         ensures place { result ≡ place self.now.words.now location }
         ensures inside { IfSome result (λ i. i < length self.now.words.now) }
     {
-        place_in(self.words, location)
+        self.words
+            .chunks_exact(2)
+            .position(|pair| pair[0] == i32::from(location))
+            .map(|k| 2 * k + 1)
     }
-}
-
-// The same in a slice of words.
-fn place_in(words: &[i32], location: u8) -> Option<usize>
-    ensures place { result ≡ place words.now location }
-    ensures inside { IfSome result (λ i. i < length words.now) }
-{
-    let mut i = 0;
-    while i + 1 < words.len() {
-        if words[i] == i32::from(location) {
-            return Some(i + 1);
-        }
-        i += 2;
-    }
-    None
 }
 
 // The cell of a number that is listed.
@@ -75,22 +63,20 @@ impl Store for PairList<'_> {
     ghost rests = { λ s. s.words.ghost_name };
 
     fn tell(&self, location: u8) -> Cell {
-        match self.place(location) {
-            Some(i) => listed(self.words[i]),
-            None => Cell::Unknown,
-        }
+        self.place(location)
+            .map_or(Cell::Unknown, |i| listed(self.words[i]))
     }
 
     fn put(&mut self, location: u8, number: i32) -> Result<(), StoreFault>
-        ensures answers { result ≡ put_answer (pair_cells self.old.words.now location) location number }
-        ensures writes { pair_cells self.new.words.now location ≡ put_left (pair_cells self.old.words.now location) number }
-        ensures spares { (k : ℕ) → (k ≢ location) → pair_cells self.new.words.now k ≡ pair_cells self.old.words.now k }
-        ensures keeps { self.new.words.ghost_name ≡ self.old.words.ghost_name }
+        ensures answers { result ≡ put_answer (⟦<Self as Store>⟧.cells self.old location) location number }
+        ensures writes { ⟦<Self as Store>⟧.cells self.new location ≡ put_left (⟦<Self as Store>⟧.cells self.old location) number }
+        ensures spares { (k : ℕ) → (k ≢ location) → ⟦<Self as Store>⟧.cells self.new k ≡ ⟦<Self as Store>⟧.cells self.old k }
+        ensures keeps { ⟦<Self as Store>⟧.rests self.new ≡ ⟦<Self as Store>⟧.rests self.old }
         ensures frames { self.new.words.now ≡ words_after self.old.words.now location number }
     {
-        let Some(i) = self.place(location) else {
-            return Err(StoreFault::UnknownLocation(location));
-        };
+        let i = self
+            .place(location)
+            .ok_or(StoreFault::UnknownLocation(location))?;
         listed(self.words[i]).admit(location, number)?;
         self.words[i] = number;
         Ok(())

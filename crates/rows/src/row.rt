@@ -1,7 +1,10 @@
 // A row of a rule table, decoded, and its sort.
 ghost use Rattle.std.specs.Prelude.{◌≡◌};
+ghost use Rattle.std.specs.Result.{result_ok};
 ghost use Rattle.rows.specs.Rows.{sort_of, operator_of, relation_of, truth_of, decoded, row_at};
 
+use crate::kind::Kind;
+use crate::unspelt::Unspelt;
 use crate::words::{Words, words_at};
 
 /// What a row comes to: a number, a truth value, or new cells.
@@ -72,61 +75,69 @@ impl Row {
     }
 }
 
-// The operator of that number.
-fn operator_of(a: u32) -> Option<Operator>
-    ensures { result ≡ operator_of a }
-{
-    match a {
-        0 => Some(Operator::Plus),
-        1 => Some(Operator::Minus),
-        2 => Some(Operator::Times),
-        3 => Some(Operator::Over),
-        _ => None,
+impl TryFrom<u32> for Operator {
+    type Error = Unspelt;
+
+    ghost try_from_gives = { λ n r. result_ok r ≡ operator_of n };
+
+    fn try_from(number: u32) -> Result<Self, Unspelt> {
+        match number {
+            0 => Ok(Operator::Plus),
+            1 => Ok(Operator::Minus),
+            2 => Ok(Operator::Times),
+            3 => Ok(Operator::Over),
+            _ => Err(Unspelt),
+        }
     }
 }
 
-// The relation of that number.
-fn relation_of(a: u32) -> Option<Relation>
-    ensures { result ≡ relation_of a }
-{
-    match a {
-        0 => Some(Relation::Greater),
-        1 => Some(Relation::Less),
-        2 => Some(Relation::Equal),
-        _ => None,
+impl TryFrom<u32> for Relation {
+    type Error = Unspelt;
+
+    ghost try_from_gives = { λ n r. result_ok r ≡ relation_of n };
+
+    fn try_from(number: u32) -> Result<Self, Unspelt> {
+        match number {
+            0 => Ok(Relation::Greater),
+            1 => Ok(Relation::Less),
+            2 => Ok(Relation::Equal),
+            _ => Err(Unspelt),
+        }
     }
 }
 
-// The truth value of that number.
-fn truth_of(a: u32) -> Option<bool>
-    ensures { result ≡ truth_of a }
+// The truth value of that number. An `impl TryFrom<u32> for bool` can stand only where one of the two is declared.
+fn truth_of(number: u32) -> Result<bool, Unspelt>
+    ensures { result_ok result ≡ truth_of number }
 {
-    match a {
-        0 => Some(false),
-        1 => Some(true),
-        _ => None,
+    match number {
+        0 => Ok(false),
+        1 => Ok(true),
+        _ => Err(Unspelt),
     }
 }
 
-/// The row that the words spell, where they spell one.
-pub fn decode(words: Words) -> Option<Row>
-    ensures { result ≡ decoded words }
-{
-    let Words { kind, a, b, c } = words;
-    match kind {
-        0 => Some(Row::Number(a.cast_signed())),
-        1 => Some(Row::Contents(u8::try_from(a).ok()?)),
-        2 => Some(Row::Arithmetic(operator_of(a)?, b, c)),
-        3 => Some(Row::Truth(truth_of(a)?)),
-        4 => Some(Row::Comparison(relation_of(a)?, b, c)),
-        5 => Some(Row::Not(a)),
-        6 => Some(Row::And(a, b)),
-        7 => Some(Row::Skip),
-        8 => Some(Row::Assignment(u8::try_from(a).ok()?, b)),
-        9 => Some(Row::Sequence(a, b)),
-        10 => Some(Row::Choice(a, b, c)),
-        11 => Some(Row::Loop(a, b)),
-        _ => None,
+impl TryFrom<Words> for Row {
+    type Error = Unspelt;
+
+    ghost try_from_gives = { λ w r. result_ok r ≡ decoded w };
+
+    fn try_from(words: Words) -> Result<Self, Unspelt> {
+        let Words { kind, a, b, c } = words;
+        Ok(match Kind::try_from(kind)? {
+            Kind::Number => Row::Number(a.cast_signed()),
+            Kind::Contents => Row::Contents(u8::try_from(a)?),
+            Kind::Arithmetic => Row::Arithmetic(Operator::try_from(a)?, b, c),
+            Kind::Truth => Row::Truth(truth_of(a)?),
+            Kind::Comparison => Row::Comparison(Relation::try_from(a)?, b, c),
+            Kind::Not => Row::Not(a),
+            Kind::And => Row::And(a, b),
+            Kind::Skip => Row::Skip,
+            Kind::Assignment => Row::Assignment(u8::try_from(a)?, b),
+            Kind::Sequence => Row::Sequence(a, b),
+            Kind::Choice => Row::Choice(a, b, c),
+            Kind::Loop => Row::Loop(a, b),
+        })
     }
 }
 
@@ -134,5 +145,5 @@ pub fn decode(words: Words) -> Option<Row>
 pub fn row_at(table: &[u32], p: u32) -> Option<Row>
     ensures { result ≡ row_at table.now p }
 {
-    decode(words_at(table, p)?)
+    Row::try_from(words_at(table, p)?).ok()
 }

@@ -1,10 +1,21 @@
 -- What an end tells: its number, row and location, case by case.
 use Rattle.semantics.specs.Faults.{number_of, row_of, location_of}
+use Rattle.semantics.specs.declared.fault.Fault as fault
 use Rattle.runs.specs.declared.end.Stop.{Stop}
 use Rattle.runs.specs.declared.end.Stop.TheVariants.{Stuck, Fault}
 use Rattle.runs.specs.declared.end.End.{End}
 use Rattle.runs.specs.declared.end.End.TheVariants.{Finished, Stopped, Limit}
-use Rattle.std.specs.Prelude.{ℕ}
+use Rattle.std.specs.Prelude.{ℕ, Some, None, Option}
+
+-- what a stop and an end hold
+abbrev pub stop_fault : Stop → Option fault.Fault
+stop_fault Stuck = None
+stop_fault (Fault f) = Some f
+
+abbrev pub end_stop : End → Option Stop
+end_stop Finished = None
+end_stop (Stopped e) = Some e
+end_stop Limit = None
 
 abbrev pub stop_number : Stop → ℕ
 stop_number Stuck = 12

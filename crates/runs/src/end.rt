@@ -1,12 +1,13 @@
 // How a run ends.
 ghost use Rattle.std.specs.Prelude.{◌≡◌};
 ghost use Rattle.runs.specs.declared.end.Stop.TheVariants.{Stuck};
-ghost use Rattle.runs.specs.Ends.{stop_number, stop_row, stop_location, end_number, end_row, end_location};
+ghost use Rattle.runs.specs.Ends.{stop_fault, stop_number, stop_row, stop_location, end_stop, end_number, end_row, end_location};
 
 use semantics::fault::Fault;
 use stack::stack::NoRoom;
 
 /// Why a transition is not made.
+// No `Option<Fault>`: it is the error of a Result, and `Err(None)` would not say that the run is stuck.
 #[derive(Clone, Copy, PartialEq, Eq, Debug)]
 pub enum Stop {
     /// No rule fits, or what the rule lays does not fit the stacks.
@@ -28,29 +29,29 @@ impl Stop {
     pub fn number(self) -> u8
         ensures { result ≡ stop_number self }
     {
-        match self {
-            Stop::Stuck => 12,
-            Stop::Fault(fault) => fault.number(),
-        }
+        self.fault().map_or(12, Fault::number)
     }
 
     /// The row of the fault, and 0 of a run that is stuck.
     pub fn row(self) -> u32
         ensures { result ≡ stop_row self }
     {
-        match self {
-            Stop::Stuck => 0,
-            Stop::Fault(fault) => fault.row(),
-        }
+        self.fault().map_or(0, Fault::row)
     }
 
     /// The location of the store's refusal, and otherwise 0.
     pub fn location(self) -> u8
         ensures { result ≡ stop_location self }
     {
+        self.fault().map_or(0, Fault::location)
+    }
+
+    fn fault(self) -> Option<Fault>
+        ensures { result ≡ stop_fault self }
+    {
         match self {
-            Stop::Stuck => 0,
-            Stop::Fault(fault) => fault.location(),
+            Stop::Stuck => None,
+            Stop::Fault(fault) => Some(fault),
         }
     }
 }
@@ -82,21 +83,22 @@ impl End {
     pub fn row(self) -> u32
         ensures { result ≡ end_row self }
     {
-        match self {
-            End::Finished => 0,
-            End::Stopped(stop) => stop.row(),
-            End::Limit => 0,
-        }
+        self.stop().map_or(0, Stop::row)
     }
 
     /// The location of the store's refusal, and otherwise 0.
     pub fn location(self) -> u8
         ensures { result ≡ end_location self }
     {
+        self.stop().map_or(0, Stop::location)
+    }
+
+    fn stop(self) -> Option<Stop>
+        ensures { result ≡ end_stop self }
+    {
         match self {
-            End::Finished => 0,
-            End::Stopped(stop) => stop.location(),
-            End::Limit => 0,
+            End::Stopped(stop) => Some(stop),
+            End::Finished | End::Limit => None,
         }
     }
 }

@@ -1,10 +1,10 @@
 -- A transition of the row machine, read, is a transition of SIMP.
-use Rattle.std.proofs.Common.{◌≡◌, ℕ, Bool, true, false, cond, not, ◌&&◌, List, ◌∷◌, ℤ, Some, None, Ok, Option, sym, refl, ap, ◌∙◌, subst, subst₂, arith as linear}
+use Rattle.std.proofs.Common.{◌≡◌, ℕ, not, ◌&&◌, List, ◌∷◌, ℤ, Some, None, Ok, Option, sym, refl, ap, ◌∙◌, subst, subst₂, rules}
 use Rattle.rows.specs.declared.row.Operator.{Operator}
 use Rattle.rows.specs.declared.row.Row.{Row}
 use Rattle.rows.specs.declared.row.Row.TheVariants as row
 use Rattle.rows.specs.Parts.{EachPart}
-use Rattle.semantics.specs.Arithmetic.{outcome, in_range, kept_or_fault, fitting, computed, compared}
+use Rattle.semantics.specs.Arithmetic.{outcome, fitting, computed, compared}
 use Rattle.semantics.specs.Machine as machine
 use Rattle.semantics.specs.Machine.{Configuration, Transition}
 use Rattle.semantics.specs.Traces.{Takes, none, more}
@@ -23,13 +23,9 @@ use Rattle.semantics.proofs.Memory.{updated}
 use Rattle.semantics.proofs.Trees.{tree, one_tree, whole_read, finish_read, number_read, truth_read, location_read, row_read}
 
 -- what fits 32 bits is the exact outcome
-exact_in : (b : Bool) (y z : ℤ) → kept_or_fault (cond b (Some y) None) ≡ Ok z → y ≡ z
-exact_in true y z q = cc
-exact_in false y z q = let n : ◌≡◌ {A = ℕ} 0 1 = cc in absurd (omega linear)
-
 exact_of : (v : Option ℤ) (z : ℤ) → fitting v ≡ Ok z → v ≡ Some z
-exact_of None z q = let n : ◌≡◌ {A = ℕ} 0 1 = cc in absurd (omega linear)
-exact_of (Some y) z q = ap Some (exact_in (in_range y) y z q)
+exact_of None z q = cc
+exact_of (Some y) z q = search rules
 
 pub exact : (o : Operator) (a b z : ℤ) → computed o a b ≡ Ok z → outcome o a b ≡ Some z
 exact o a b z q = exact_of (outcome o a b) z q

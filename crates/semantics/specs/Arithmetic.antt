@@ -1,5 +1,6 @@
 -- What operators and relations make of two numbers.
-use Rattle.std.specs.Prelude.{ℕ, zero, suc, Bool, cond, ◌&&◌, ℤ, pos, negsuc, ◌+ℤ◌, ◌-ℤ◌, ◌*ℤ◌, Some, None, Ok, Err, Option, Result, int_div, int_le, int_lt}
+use Rattle.std.specs.Prelude.{ℕ, zero, suc, Bool, cond, ◌&&◌, ℤ, pos, negsuc, ◌+ℤ◌, ◌-ℤ◌, ◌*ℤ◌, Some, None, Err, Option, Result, int_div, int_le, int_lt}
+use Rattle.std.specs.Option.{ok_or}
 use Rattle.rows.specs.declared.row.Operator.{Operator}
 use Rattle.rows.specs.declared.row.Operator.TheVariants.{Plus, Minus, Times, Over}
 use Rattle.rows.specs.declared.row.Relation.{Relation}
@@ -31,14 +32,10 @@ in_range z = int_le (negsuc 2147483647) z && int_le z (pos 2147483647)
 abbrev pub kept : ℤ → Option ℤ
 kept z = cond (in_range z) (Some z) None
 
-abbrev pub kept_or_fault : Option ℤ → Result ℤ ArithmeticFault
-kept_or_fault None = Err OutOfRange
-kept_or_fault (Some z) = Ok z
-
 -- is there an outcome (17), and is it a number of 32 bits (18)?
 abbrev pub fitting : Option ℤ → Result ℤ ArithmeticFault
 fitting None = Err ZeroDivisor
-fitting (Some z) = kept_or_fault (kept z)
+fitting (Some z) = ok_or (kept z) OutOfRange
 
 -- what a row of arithmetic makes of its left and its right operand
 abbrev pub computed : Operator → ℤ → ℤ → Result ℤ ArithmeticFault

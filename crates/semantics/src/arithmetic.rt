@@ -1,6 +1,6 @@
 // What operators and relations make of two numbers.
 ghost use Rattle.std.specs.Prelude.{◌≡◌};
-ghost use Rattle.semantics.specs.Arithmetic.{computed, compared, arithmetic_number, kept_or_fault};
+ghost use Rattle.semantics.specs.Arithmetic.{computed, compared, arithmetic_number};
 
 use rows::row::{Operator, Relation};
 
@@ -25,32 +25,18 @@ impl ArithmeticFault {
     }
 }
 
-// A number that is there, or else the fault of one that does not fit.
-fn in_range(n: Option<i32>) -> Result<i32, ArithmeticFault>
-    ensures { result ≡ kept_or_fault n }
-{
-    match n {
-        Some(n) => Ok(n),
-        None => Err(ArithmeticFault::OutOfRange),
-    }
-}
-
 /// What the operator makes of a left and a right number.
 pub fn compute(operator: Operator, x: i32, y: i32) -> Result<i32, ArithmeticFault>
     ensures { result ≡ computed operator x y }
 {
-    match operator {
-        Operator::Plus => in_range(x.checked_add(y)),
-        Operator::Minus => in_range(x.checked_sub(y)),
-        Operator::Times => in_range(x.checked_mul(y)),
-        Operator::Over => {
-            if y == 0 {
-                Err(ArithmeticFault::ZeroDivisor)
-            } else {
-                in_range(x.checked_div(y))
-            }
-        }
-    }
+    let outcome = match operator {
+        Operator::Plus => x.checked_add(y),
+        Operator::Minus => x.checked_sub(y),
+        Operator::Times => x.checked_mul(y),
+        Operator::Over if y == 0 => return Err(ArithmeticFault::ZeroDivisor),
+        Operator::Over => x.checked_div(y),
+    };
+    outcome.ok_or(ArithmeticFault::OutOfRange)
 }
 
 /// Whether the left and the right number stand in the relation.

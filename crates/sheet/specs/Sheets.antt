@@ -1,5 +1,6 @@
 -- The sheet: the cells that a list of records stands for, and what a put does to the records.
-use Rattle.std.specs.Prelude.{◌≡◌, ℕ, Bool, true, false, cond, ◌&&◌, List, ℤ, pos, int_le, slice_index_or, slice_set, refl, Option, Some, None}
+use Rattle.std.specs.Prelude.{◌≡◌, ℕ, Bool, true, false, cond, ◌&&◌, List, ℤ, pos, int_le, slice_index_or, slice_set, is_some, Some, None, refl}
+use Rattle.std.specs.Option.{unwrap_or}
 use Rattle.cells.specs.declared.cell.Mark.{Mark}
 use Rattle.cells.specs.declared.cell.Mark.TheVariants.{Free, Fixed}
 use Rattle.cells.specs.declared.cell.KnownCell.{KnownCell}
@@ -54,23 +55,15 @@ abbrev pub is_fixed : Mark → Bool
 is_fixed Free = false
 is_fixed Fixed = true
 
-abbrev pub is_set : Option ℤ → Bool
-is_set None = false
-is_set (Some n) = true
-
-abbrev pub number_in : Option ℤ → ℤ
-number_in None = pos 0
-number_in (Some n) = n
-
 abbrev pub record_of : KnownCell → Record
 record_of h =
     record {
       known = true;
       fixed = is_fixed h.mark;
-      set = is_set h.content;
+      set = is_some h.content;
       lowest = h.lowest;
       highest = h.highest;
-      number = number_in h.content;
+      number = unwrap_or h.content (pos 0);
     }
 
 -- ---- the laws of a store

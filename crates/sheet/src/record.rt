@@ -1,11 +1,12 @@
 // A record of a sheet: how a cell lies in memory.
 ghost use Rattle.std.specs.Prelude.{◌≡◌};
-ghost use Rattle.sheet.specs.Sheets.{cell_of, blank, record_of, with_number, sound};
+ghost use Rattle.sheet.specs.Sheets.{cell_of, blank, record_of, with_number, described, holds_together, sound};
 
 use cells::cell::{Cell, KnownCell, Mark};
 
 /// A cell's record. Its number counts only where `set` is marked.
-#[derive(Clone, Copy, PartialEq, Eq, Debug)]
+// Marks and numbers side by side, and no Option or enum: this is the documented form of a record in the caller's memory.
+#[derive(Clone, Copy, PartialEq, Eq, Default, Debug)]
 pub struct Record {
     pub known: bool,
     pub fixed: bool,
@@ -20,57 +21,7 @@ impl Record {
     pub fn blank() -> Record
         ensures { result ≡ blank }
     {
-        Record {
-            known: false,
-            fixed: false,
-            set: false,
-            lowest: 0,
-            highest: 0,
-            number: 0,
-        }
-    }
-
-    /// The record of that cell. It stands for the cell if the limits do not cross and hold its content.
-    pub fn new(cell: KnownCell) -> Record
-        ensures made { result ≡ record_of cell }
-        ensures stands { cell_of result ≡ sound cell }
-    {
-        let (set, number) = match cell.content {
-            None => (false, 0),
-            Some(number) => (true, number),
-        };
-        let fixed = match cell.mark {
-            Mark::Free => false,
-            Mark::Fixed => true,
-        };
-        Record {
-            known: true,
-            fixed,
-            set,
-            lowest: cell.lowest,
-            highest: cell.highest,
-            number,
-        }
-    }
-
-    /// The cell that the record stands for. A record stands for none unless it is marked known, its
-    /// limits are in order, and the number it has set, if any, is within them.
-    pub fn cell(self) -> Cell
-        ensures { result ≡ cell_of self }
-    {
-        if !self.known || self.lowest > self.highest {
-            return Cell::Unknown;
-        }
-        let cell = KnownCell {
-            lowest: self.lowest,
-            highest: self.highest,
-            mark: if self.fixed { Mark::Fixed } else { Mark::Free },
-            content: if self.set { Some(self.number) } else { None },
-        };
-        if self.set && !cell.within(self.number) {
-            return Cell::Unknown;
-        }
-        Cell::Known(cell)
+        Record::default()
     }
 
     /// The record with the number set, its other fields as they were.
@@ -83,4 +34,54 @@ impl Record {
             ..self
         }
     }
+
+    // What the record says of its cell, if it stands for one.
+    fn described(self) -> KnownCell
+        ensures { result ≡ described self }
+    {
+        KnownCell {
+            lowest: self.lowest,
+            highest: self.highest,
+            mark: if self.fixed { Mark::Fixed } else { Mark::Free },
+            content: self.set.then_some(self.number),
+        }
+    }
+}
+
+/// The record of that cell. It stands for the cell if the limits do not cross and hold its content.
+impl From<KnownCell> for Record {
+    ghost from_gives = { λ h r. (r ≡ record_of h) × (cell_of r ≡ sound h) };
+
+    fn from(cell: KnownCell) -> Record {
+        Record {
+            known: true,
+            fixed: cell.mark == Mark::Fixed,
+            set: cell.content.is_some(),
+            lowest: cell.lowest,
+            highest: cell.highest,
+            number: cell.content.unwrap_or(0),
+        }
+    }
+}
+
+/// The cell that the record stands for. A record stands for none unless it is marked known, its
+/// limits are in order, and the number it has set, if any, is within them.
+impl From<Record> for Cell {
+    ghost from_gives = { λ r c. c ≡ cell_of r };
+
+    fn from(source: Record) -> Cell {
+        let cell = source.described();
+        if source.known && holds_together(cell) {
+            Cell::Known(cell)
+        } else {
+            Cell::Unknown
+        }
+    }
+}
+
+// Whether the limits are in order, and the number that is held, if any, within them.
+fn holds_together(cell: KnownCell) -> bool
+    ensures { result ≡ holds_together cell }
+{
+    cell.lowest <= cell.highest && cell.content.is_none_or(|number| cell.within(number))
 }

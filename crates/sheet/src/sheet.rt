@@ -44,28 +44,22 @@ impl Store for Sheet<'_> {
     ghost rests = { λ s. s.records.ghost_name };
 
     fn tell(&self, location: u8) -> Cell {
-        let i = location as usize;
-        if i < self.records.len() {
-            self.records[i].cell()
-        } else {
-            Cell::Unknown
+        match self.records.get(usize::from(location)) {
+            Some(record) => Cell::from(*record),
+            None => Cell::Unknown,
         }
     }
 
     fn put(&mut self, location: u8, number: i32) -> Result<(), StoreFault>
-        ensures answers { result ≡ put_answer (sheet_cells self.old.records.now location) location number }
-        ensures writes { sheet_cells self.new.records.now location ≡ put_left (sheet_cells self.old.records.now location) number }
-        ensures spares { (k : ℕ) → (k ≢ location) → sheet_cells self.new.records.now k ≡ sheet_cells self.old.records.now k }
-        ensures keeps { self.new.records.ghost_name ≡ self.old.records.ghost_name }
+        ensures answers { result ≡ put_answer (⟦<Self as Store>⟧.cells self.old location) location number }
+        ensures writes { ⟦<Self as Store>⟧.cells self.new location ≡ put_left (⟦<Self as Store>⟧.cells self.old location) number }
+        ensures spares { (k : ℕ) → (k ≢ location) → ⟦<Self as Store>⟧.cells self.new k ≡ ⟦<Self as Store>⟧.cells self.old k }
+        ensures keeps { ⟦<Self as Store>⟧.rests self.new ≡ ⟦<Self as Store>⟧.rests self.old }
         ensures frames { self.new.records.now ≡ records_after self.old.records.now location number }
     {
-        let i = location as usize;
-        if i >= self.records.len() {
-            return Err(StoreFault::UnknownLocation(location));
-        }
-        let record = self.records[i];
-        record.cell().admit(location, number)?;
-        self.records[i] = record.with_number(number);
+        Self::tell(self, location).admit(location, number)?;
+        let record = &mut self.records[usize::from(location)];
+        *record = record.with_number(number);
         Ok(())
     }
 }

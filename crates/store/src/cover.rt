@@ -40,7 +40,7 @@ impl<S> Cover<S> {
     pub fn covers(&self, location: u8) -> bool
         ensures { result ≡ covers self.now.first self.now.last location }
     {
-        self.first <= location && location <= self.last
+        (self.first..=self.last).contains(&location)
     }
 }
 

@@ -9,18 +9,18 @@ use sheet::record::Record;
 use sheet::sheet::Sheet;
 use store::store::Store;
 
+// One for each make: what its lent memory then holds is its own clause `frames`, which no bound on stores tells.
+
 /// Puts a number into records by way of a sheet.
 pub fn put_in_records(records: &mut [Record], location: u8, number: i32) -> Result<(), StoreFault>
     ensures { records.new ≡ records_after records.old location number }
 {
-    let mut sheet = Sheet::new(records);
-    sheet.put(location, number)
+    Sheet::new(records).put(location, number)
 }
 
 /// Puts a number into words by way of a pair list.
 pub fn put_in_words(words: &mut [i32], location: u8, number: i32) -> Result<(), StoreFault>
     ensures { words.new ≡ words_after words.old location number }
 {
-    let mut list = PairList::new(words);
-    list.put(location, number)
+    PairList::new(words).put(location, number)
 }

@@ -31,7 +31,7 @@ fn split_at_255(rt: HostRuntime) {
 
 #[test]
 fn a_nest_of_all_makes(rt: HostRuntime) {
-    let mut records = [Record::new(KnownCell::widest(None)); 10];
+    let mut records = [Record::from(KnownCell::widest(None)); 10];
     let mut words = [0, 5, 7, 6];
     let mut sheet = Sheet::new(&mut records);
     let both = Neighbours::new(&mut sheet, PairList::new(&mut words), 10);

@@ -19,15 +19,15 @@ fn narrow() -> KnownCell {
 
 #[test]
 fn first_and_last_location(rt: HostRuntime) {
-    let mut records = [Record::new(narrow()); 300];
+    let mut records = [Record::from(narrow()); 300];
     let mut sheet = Sheet::new(&mut records);
     assert_eq!(rt; sheet.put(0, -3), Ok(()));
     assert_eq!(rt; sheet.put(255, 3), Ok(()));
     assert_eq!(rt; sheet.tell(0).read(0), Ok(-3));
     assert_eq!(rt; sheet.tell(1).read(1), Err(StoreFault::UnsetCell(1)));
     assert_eq!(rt; sheet.tell(255).read(255), Ok(3));
-    assert_eq!(rt; records[255], Record::new(narrow()).with_number(3));
-    assert_eq!(rt; records[256], Record::new(narrow()));
+    assert_eq!(rt; records[255], Record::from(narrow()).with_number(3));
+    assert_eq!(rt; records[256], Record::from(narrow()));
 }
 
 #[test]
@@ -44,7 +44,7 @@ fn asked_in_order(rt: HostRuntime) {
         mark: Mark::Fixed,
         ..narrow()
     };
-    let mut records = [Record::blank(), Record::new(fixed), Record::new(narrow())];
+    let mut records = [Record::blank(), Record::from(fixed), Record::from(narrow())];
     let mut sheet = Sheet::new(&mut records);
     assert_eq!(rt; sheet.put(0, 4), Err(StoreFault::UnknownLocation(0)));
     assert_eq!(rt; sheet.put(1, 4), Err(StoreFault::FixedCell(1)));
@@ -63,8 +63,8 @@ fn records_that_do_not_hold_together(rt: HostRuntime) {
         lowest: 3,
         ..narrow()
     };
-    let outside = Record::new(narrow()).with_number(4);
-    let mut records = [Record::new(crossed), Record::new(point), outside];
+    let outside = Record::from(narrow()).with_number(4);
+    let mut records = [Record::from(crossed), Record::from(point), outside];
     let sheet = Sheet::new(&mut records);
     assert_eq!(rt; sheet.tell(0), Cell::Unknown);
     assert_eq!(rt; sheet.tell(1), Cell::Known(point));
@@ -77,20 +77,20 @@ fn alike_by_cells(rt: HostRuntime) {
         mark: Mark::Fixed,
         ..narrow()
     };
-    let mut ones = [Record::new(narrow()); 256];
-    let mut others = [Record::new(narrow()); 256];
+    let mut ones = [Record::from(narrow()); 256];
+    let mut others = [Record::from(narrow()); 256];
     // a number that is not set is no part of the cell
     others[7].number = 1;
     assert!(rt; alike(&Sheet::new(&mut ones), &Sheet::new(&mut others)));
-    others[255] = Record::new(fixed);
+    others[255] = Record::from(fixed);
     assert!(rt; !alike(&Sheet::new(&mut ones), &Sheet::new(&mut others)));
 }
 
 #[test]
 fn known_cells_in_order(rt: HostRuntime) {
     let mut records = [Record::blank(); 256];
-    records[3] = Record::new(narrow());
-    records[255] = Record::new(narrow());
+    records[3] = Record::from(narrow());
+    records[255] = Record::from(narrow());
     let sheet = Sheet::new(&mut records);
     let mut known = KnownCells::of(&sheet);
     assert_eq!(rt; known.next(), Some((3, narrow())));

@@ -1,5 +1,5 @@
 -- What a program place holds: the table of the one row skip is loaded, and so is every table in a place.
-use Rattle.std.proofs.Common.{◌≡◌, ℕ, ◌<◌, List, [], ◌∷◌, IfSome, Some, None, Option, refl, subst, arith}
+use Rattle.std.proofs.Common.{◌≡◌, ℕ, ◌<◌, List, [], ◌∷◌, IfSome, Some, None, Option, Ok, refl, subst, arith}
 use mathlib.Core.Logic.{∥∥₁_elim}
 use std.HLevel.{Π_prop}
 use base.Stored.{Coded-set}
@@ -17,21 +17,30 @@ use Rattle.loading.specs.declared.refusal.Refusal.TheVariants as no
 use Rattle.rows.specs.declared.words.Words.{Words}
 use Rattle.loading.specs.Layouts.{layout_of}
 use Rattle.table.specs.Places.{table_of}
+use Rattle.loading.specs.Loading.{Answers}
+use Rattle.loading.specs.Stacks.{needs_below, needs_at}
 use Rattle.loading.specs.Questions.{Yes, Loaded, OfRow, Each, Clear, InRange, OnPart, Lower, Sorted}
 use Rattle.rows.specs.Rows.{words_at, sort_at}
 
 abbrev pub skip_table : List ℕ
 skip_table = 7 ∷ 0 ∷ 0 ∷ 0 ∷ []
 
+only_row : (P : ℕ → Type 0) → P 0 → (p : ℕ) → p < 1 → P p
+only_row P h p within = let e : 0 ≡ p = omega arith in subst P e h
+
 pub skip_loaded : Loaded skip_table
 unfolding sort_at
 skip_loaded no.Length h = (refl, omega arith, omega arith)
-skip_loaded (no.Kind p) h = let e : 0 ≡ p = omega arith in subst (λ n. Yes skip_table (no.Kind n)) e (omega arith)
-skip_loaded (no.Unused p) h = let e : 0 ≡ p = omega arith in subst (λ n. Yes skip_table (no.Unused n)) e (refl, refl, refl)
-skip_loaded (no.Range p) h = let e : 0 ≡ p = omega arith in subst (λ n. Yes skip_table (no.Range n)) e (tt, tt, tt)
-skip_loaded (no.Forward p) h = let e : 0 ≡ p = omega arith in subst (λ n. Yes skip_table (no.Forward n)) e (tt, tt, tt)
-skip_loaded (no.Mismatch p) h = let e : 0 ≡ p = omega arith in subst (λ n. Yes skip_table (no.Mismatch n)) e (tt, tt, tt)
-skip_loaded (no.NotCommand p) h = let e : 0 ≡ p = omega arith in subst (λ n. Yes skip_table (no.NotCommand n)) e refl
+skip_loaded (no.Kind p) h = only_row (λ n. Yes skip_table (no.Kind n)) (omega arith) p h
+skip_loaded (no.Unused p) h = only_row (λ n. Yes skip_table (no.Unused n)) (refl, refl, refl) p h
+skip_loaded (no.Range p) h = only_row (λ n. Yes skip_table (no.Range n)) (tt, tt, tt) p h
+skip_loaded (no.Forward p) h = only_row (λ n. Yes skip_table (no.Forward n)) (tt, tt, tt) p h
+skip_loaded (no.Mismatch p) h = only_row (λ n. Yes skip_table (no.Mismatch n)) (tt, tt, tt) p h
+skip_loaded (no.NotCommand p) h = only_row (λ n. Yes skip_table (no.NotCommand n)) refl p (omega arith)
+
+pub skip_accepted : Answers skip_table (Ok (record { control = 1; results = 0 }))
+unfolding needs_below needs_at
+skip_accepted = (skip_loaded, refl)
 
 -- A yes is known in at most one way, so a place's table may be used as loaded in every proof.
 

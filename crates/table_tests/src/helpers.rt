@@ -1,6 +1,5 @@
 // What the examples have in common.
 use std::process::Abort;
-use std::test::Fail;
 use table::Needs;
 use table::program::Program;
 
@@ -11,36 +10,24 @@ pub const FACTORIAL: [u32; 52] = [
 ];
 
 /// The words load into a place that held another table, with these needs.
-pub fn loads(rt: &impl Abort, words: &[u32], control: u16, results: u16) -> Result<(), Fail> {
+pub fn loads(rt: &impl Abort, words: &[u32], control: u16, results: u16) {
+    let needs = Needs { control, results };
     let mut place = Program::new();
-    match place.load(words) {
-        Ok(needs) => {
-            assert_eq!(rt; needs, Needs { control, results });
-            assert_eq!(rt; place.needs(), Needs { control, results });
-            assert_eq!(rt; place.table().len(), words.len());
-            Ok(())
-        }
-        Err(e) => {
-            let question = e.number();
-            assert!(rt; false, "refused {question}");
-            Err(Fail::new("refused"))
-        }
-    }
+    assert_eq!(rt; place.load(words), Ok(needs));
+    assert_eq!(rt; place.needs(), needs);
+    assert_eq!(rt; place.table().len(), words.len());
 }
 
 /// The words are refused with that question and row, and the place keeps the factorial table.
-pub fn refuses(rt: &impl Abort, words: &[u32], number: u8, row: u32) -> Result<(), Fail> {
+pub fn refuses(rt: &impl Abort, words: &[u32], number: u8, row: u32) {
     let mut place = Program::new();
-    if place.load(&FACTORIAL).is_err() {
-        return Err(Fail::new("the factorial table does not load"));
-    }
-    match place.load(words) {
-        Ok(_) => Err(Fail::new("accepted")),
-        Err(e) => {
-            assert_eq!(rt; e.number(), number);
-            assert_eq!(rt; e.row(), row);
-            assert_eq!(rt; place.last_row(), 12);
-            Ok(())
-        }
-    }
+    assert!(rt;
+        place.load(&FACTORIAL).is_ok(),
+        "the factorial table does not load"
+    );
+    let answer = place
+        .load(words)
+        .map_err(|refusal| (refusal.number(), refusal.row()));
+    assert_eq!(rt; answer.err(), Some((number, row)));
+    assert_eq!(rt; place.last_row(), 12);
 }

@@ -5,7 +5,7 @@ use Rattle.transition.specs.Steps.{Keeps}
 
 module _ {S G : Type 0} {rests : S → G} where
   pub unchanged : {m : Machine S} → Keeps rests m m
-  unchanged = record { places = refl; ground = refl }
+  unchanged = record { places = refl; lent = refl; ground = refl }
 
   pub then_kept : {m m' m'' : Machine S} → Keeps rests m m' → Keeps rests m' m'' → Keeps rests m m''
-  then_kept a b = record { places = b.places ∙ a.places; ground = b.ground ∙ a.ground }
+  then_kept a b = record { places = b.places ∙ a.places; lent = b.lent ∙ a.lent; ground = b.ground ∙ a.ground }

@@ -16,17 +16,19 @@ use Rattle.transition.specs.Exchanges.{Stacks, Room, Outcome, went, stopped, fou
 module _ {S : Type 0} where
   -- the configuration of a machine, for whose store these cells are
   abbrev pub configuration : (S → Cells) → Machine S → Configuration
-  configuration cells m = conf (contents m.stacks.control) (contents m.stacks.results) (cells m.store)
+  configuration cells m = conf (contents m.stacks.control) (contents m.stacks.results) (cells m.store.now)
 
-  -- what no call changes: the places of both stacks, and what the store rests on
+  -- what no call changes: the places of both stacks, which store is lent, and what that rests on
   pub record Keeps {G : Type 0} (rests : S → G) (m m' : Machine S) : Type 0 where
     pub places : room m'.stacks ≡ room m.stacks
-    pub ground : rests m'.store ≡ rests m.store
+    pub lent : m'.store.ghost_name ≡ m.store.ghost_name
+    pub ground : rests m'.store.now ≡ rests m.store.now
 
   -- the machine m has become m' as the outcome says
   pub record Stepped {G : Type 0} (cells : S → Cells) (rests : S → G) (o : Outcome Configuration) (m m' : Machine S) (r : Result (Unit {0}) Stop) : Type 0 where
     pub did : Did o (room m.stacks) (room m'.stacks) (configuration cells m) (configuration cells m') r
-    pub keeps : rests m'.store ≡ rests m.store
+    pub lent : m'.store.ghost_name ≡ m.store.ghost_name
+    pub ground : rests m'.store.now ≡ rests m.store.now
 
 abbrev pub over : Cells → Stacks → Configuration
 over m s = conf s.control s.results m

@@ -93,7 +93,7 @@ impl<S: Store> Machine<'_, S> {
     // The number goes to the store, which may refuse it: then both stacks stay as they are.
     fn assign(&mut self, p: u32, location: u8) -> Result<(), Stop>
         requires { 1 ≤ length (contents self.old.stacks.control) }
-        ensures { Stepped S.cells S.rests (assignment_of p location (S.cells self.old.store) (stacks self.old.stacks)) self.old self.new result }
+        ensures { Stepped S.cells S.rests (assignment_of p location (S.cells self.old.store.now) (stacks self.old.stacks)) self.old self.new result }
     {
         let n = number_for(location, self.stacks.results.view()).ok_or(Stop::Stuck)?;
         if let Err(fault) = self.store.put(location, n) {
@@ -110,7 +110,7 @@ impl<S: Store> Machine<'_, S> {
     /// Row `p`'s own operator: it takes the values of the parts, and what it makes of them is laid, put or gone on with.
     pub(crate) fn finish(&mut self, p: u32, row: Row) -> Result<(), Stop>
         requires { 1 ≤ length (contents self.old.stacks.control) }
-        ensures { Stepped S.cells S.rests (finish_all_of (room self.old.stacks) p (S.cells self.old.store) row (stacks self.old.stacks)) self.old self.new result }
+        ensures { Stepped S.cells S.rests (finish_all_of (room self.old.stacks) p (S.cells self.old.store.now) row (stacks self.old.stacks)) self.old self.new result }
     {
         match target(row) {
             Some(location) => self.assign(p, location),

@@ -6,19 +6,25 @@ use crate::pair::StackPair;
 use semantics::item::{Control, Item};
 use stack::stack::Stack;
 
-/// The abstract machine of a run: its two stacks, over the store whose cells the rules read and put.
+/// The abstract machine of a run: its two stacks, over the store whose cells the rules read and put. All
+/// of it is lent.
 #[derive(Drop)]
 pub struct Machine<'a, S> {
     pub stacks: StackPair<'a>,
-    pub store: S,
+    pub store: &'a mut S,
 }
 
 impl<'a, S> Machine<'a, S> {
     /// A machine over that store. Its stacks are empty, and their places those of the lent slices.
-    pub fn new(control: &'a mut [Control], results: &'a mut [Item], store: S) -> Machine<'a, S>
+    pub fn new(
+        control: &'a mut [Control],
+        results: &'a mut [Item],
+        store: &'a mut S,
+    ) -> Machine<'a, S>
         ensures control { (contents result.stacks.control ≡ []) × (places result.stacks.control ≡ length control.old) }
         ensures results { (contents result.stacks.results ≡ []) × (places result.stacks.results ≡ length results.old) }
-        ensures store { result.store ≡ store }
+        ensures store { result.store.now ≡ store.old }
+        ensures lends { result.store.ghost_name ≡ store.entry.ghost_name }
     {
         let control = Stack::new(control);
         let results = Stack::new(results);

@@ -17,12 +17,12 @@ use table::program::Program;
 impl<S: Store> Machine<'_, S> {
     // The transition, if there is one.
     fn attempt(&mut self, program: &Program<'_>) -> Result<(), Stop>
-        ensures { Stepped S.cells S.rests (step_of (room self.old.stacks) (row_at (table_of program.now)) (S.cells self.old.store) (stacks self.old.stacks)) self.old self.new result }
+        ensures { Stepped S.cells S.rests (step_of (room self.old.stacks) (row_at (table_of program.now)) (S.cells self.old.store.now) (stacks self.old.stacks)) self.old self.new result }
     {
         match self.stacks.control.top().ok_or(Stop::Stuck)? {
             Control::Whole(p) => {
                 let row = program.row(p).ok_or(Stop::Stuck)?;
-                self.stacks.whole(p, row, &self.store)
+                self.stacks.whole(p, row, &*self.store)
             }
             Control::Finish(p) => {
                 let row = program.row(p).ok_or(Stop::Stuck)?;

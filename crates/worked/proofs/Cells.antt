@@ -1,7 +1,7 @@
 -- Records that are set one after another stand for the cells of a case.
-use Rattle.std.proofs.Common.{◌≡◌, ℕ, suc, ◌+◌, ◌-◌, ◌<◌, ◌≤◌, cond, eqb, ltb, List, [], ◌∷◌, length, get_or, drop, set, replicate, ℤ, pos, negsuc, sym, ap, ◌∙◌, inl, inr, arith, get_or-set_same, w32, SFits, le-leb, Some, None}
+use Rattle.std.proofs.Common.{◌≡◌, ℕ, suc, ◌<◌, ◌≤◌, cond, eqb, ltb, List, [], ◌∷◌, ◌++◌, append_assoc, refl, length, get_or, set, replicate, ℤ, pos, negsuc, sym, ap, ◌∙◌, inl, inr, arith, get_or-set_same, get_or-set_other, w32, SFits, le-leb, Some, None}
 use lib.ListN.{get_or-replicate}
-use Rattle.std.proofs.lemmas.List.{drop_more}
+use Rattle.std.specs.List.{push}
 use Rattle.std.proofs.lemmas.Bool.Decides.{eqb_tells, leb_tells}
 use Rattle.cells.specs.declared.cell.Cell.TheVariants.{Known}
 use Rattle.cells.specs.Cells.{widest, known_if}
@@ -9,7 +9,6 @@ use Rattle.cells.proofs.Laws.{located}
 use Rattle.semantics.specs.Worked.{cells_with}
 use Rattle.sheet.specs.declared.record.Record.{Record}
 use Rattle.sheet.specs.Sheets.{sound, cell_of, blank, sheet_cells}
-use Rattle.sheet.proofs.SheetLemmas.{set_spares}
 use Rattle.worked.specs.declared.start.Holding.{Holding}
 use Rattle.worked.specs.Setups.{held_at, held}
 
@@ -20,6 +19,10 @@ plain r e k = elim (leb_tells (suc k) 256) [
   | inr p ↦ rw p.0
 ]
 
+-- a record that is set is no other location's
+spared : (rs : List Record) (l : ℕ) (r : Record) (k : ℕ) → (k ≡ l → ⊥) → sheet_cells (set rs l r) k ≡ sheet_cells rs k
+spared rs l r k ne = rw (get_or-set_other rs l k r blank ne)
+
 -- one record more
 set_one : (rs : List Record) (l : ℕ) (r : Record) → l < 256 → length rs ≡ 256 → (k : ℕ) → sheet_cells (set rs l r) k ≡ cond (eqb k l) (cell_of r) (sheet_cells rs k)
 set_one rs l r small full k = elim (eqb_tells k l) [
@@ -27,24 +30,29 @@ set_one rs l r small full k = elim (eqb_tells k l) [
       let here : sheet_cells (set rs l r) l ≡ cell_of r =
       located (λ i. cell_of (get_or (set rs l r) i blank)) l small ∙ ap cell_of (get_or-set_same rs l r blank (omega arith)) in
       ap (sheet_cells (set rs l r)) p.1 ∙ here ∙ sym (ap (λ b. cond b (cell_of r) (sheet_cells rs k)) p.0)
-  | inr p ↦ set_spares rs l r k p.1 ∙ sym (ap (λ b. cond b (cell_of r) (sheet_cells rs k)) p.0)
+  | inr p ↦ spared rs l r k p.1 ∙ sym (ap (λ b. cond b (cell_of r) (sheet_cells rs k)) p.0)
 ]
 
--- one holding more, from the end
+-- one holding more, before those that are done
 pub one_more :
-    (hs : List Holding) (i : ℕ) (d : Holding) (rs : List Record) (r : Record) → 0 < i → i ≤ length hs → length rs ≡ 256 →
-    (get_or hs (i - 1) d).location < 256 → cell_of r ≡ (held_at (get_or hs (i - 1) d)).1 →
-    ((k : ℕ) → sheet_cells rs k ≡ cells_with (held (drop i hs)) k) →
-    (k : ℕ) → sheet_cells (set rs (get_or hs (i - 1) d).location r) k ≡ cells_with (held (drop (i - 1) hs)) k
-one_more hs i d rs r more within full small stands before k =
-    let h = get_or hs (i - 1) d in
-    let lt : i - 1 < length hs = omega arith in
-    let e : (i - 1) + 1 ≡ i = omega arith in
-    let rest : drop (i - 1) hs ≡ h ∷ drop i hs = drop_more hs (i - 1) d lt ∙ ap (λ j. h ∷ drop j hs) e in
+    (done : List Holding) (h : Holding) (rs : List Record) (r : Record) → length rs ≡ 256 → h.location < 256 → cell_of r ≡ (held_at h).1 →
+    ((k : ℕ) → sheet_cells rs k ≡ cells_with (held done) k) →
+    (k : ℕ) → sheet_cells (set rs h.location r) k ≡ cells_with (held (h ∷ done)) k
+one_more done h rs r full small stands before k =
     set_one rs h.location r small full k
     ∙ ap (λ c. cond (eqb k h.location) c (sheet_cells rs k)) stands
     ∙ ap (cond (eqb k h.location) (held_at h).1) (before k)
-    ∙ ap (λ hs. cells_with (held hs) k) (sym rest)
+
+-- the last of those that are left comes before those that are done
+pub one_left : (all left left' done : List Holding) (h : Holding) → all ≡ left ++ done → left ≡ push left' h → all ≡ left' ++ (h ∷ done)
+one_left all left left' done h e q = e ∙ ap (λ l. l ++ done) q ∙ append_assoc left' (h ∷ []) done
+
+none_of : (xs : List Holding) → length xs ≡ 0 → xs ≡ []
+none_of [] e = refl
+none_of (x ∷ xs) e = absurd (omega (arith, e))
+
+pub all_done : (all left done : List Holding) → all ≡ left ++ done → length left ≡ 0 → all ≡ done
+all_done all left done e q = e ∙ ap (λ l. l ++ done) (none_of left q)
 
 -- every number of 32 bits lies within the widest limits
 pub fitting : (n : ℤ) → SFits w32 n → sound (widest (Some n)) ≡ Known (widest (Some n))

@@ -1,5 +1,5 @@
 -- A run that was begun and gone on with once has a history, and what is answered of it.
-use Rattle.std.proofs.Common.{◌≡◌, ℕ, ◌≤◌, List, [], ◌∷◌, Some, None, Ok, Err, Option, sym, ◌∙◌, subst, subst₂, arith as linear, le-leb}
+use Rattle.std.proofs.Common.{◌≡◌, ℕ, ◌≤◌, List, [], ◌∷◌, Some, None, Ok, Err, Option, Result, sym, ◌∙◌, subst, subst₂, arith as linear, le-leb}
 use mathlib.Core.Path.{fun_ext}
 use Rattle.rows.specs.Rows.{row_at, last_row}
 use Rattle.loading.specs.declared.needs.Needs.{Needs}
@@ -37,9 +37,11 @@ module _ (table : List ℕ) (k k' : Room) (same : k' ≡ k) (limit : ℕ) (s : C
   begun r (begins e a) g = record { admitted = a; went = goes_on g rests }
 
   -- the run comes to a progress, which is then known as q
-  pub served : {t : Configuration} (u : Configuration) {p : Progress} (q : Progress) (r : Running) → Begins table k.control k.results limit s (Ok r) t →
-      Slice k' r t (board_of p u) → p ≡ q → Run (board_of q u)
-  served {t} u {p} q r d g e = subst (λ q. Run (board_of q u)) e (begun r d (subst (λ k. Slice k r t (board_of p u)) same g))
+  pub served : {t : Configuration} (u : Configuration) {p : Progress} (q : Progress) (r : Running) {a : Result Running BeginRefusal} → a ≡ Ok r →
+      Begins table k.control k.results limit s a t → Slice k' r t (board_of p u) → p ≡ q → Run (board_of q u)
+  served {t} u {p} q r is d g e =
+      subst (λ q. Run (board_of q u)) e
+      (begun r (subst (λ a. Begins table k.control k.results limit s a t) is d) (subst (λ k. Slice k r t (board_of p u)) same g))
 
 module _ (table : List ℕ) (k h limit : ℕ) where
   no_refusal : Admits table k h limit → first_no table k h limit ≡ None
@@ -89,10 +91,10 @@ module _ (table : List ℕ) (k h limit : ℕ) (m m' : Cells) where
       (subst (λ n. History table i j n (cells_with c.start) l b) p.limited
       (subst (λ m. History table i j limit m l b) (fun_ext p.cells) w))
 
-  pub claimed : (r : Option Ended) → Loaded table → ComesTo table k h limit m m' r → (c : Case) → Worked c → Poses c table k h limit m → ClaimedAnswer c m' r
-  claimed (Some e) loaded t c w p =
+  pub claimed : (r : Option Ended) → ComesTo table k h limit m m' r → (c : Case) → Worked c → Poses c table k h limit m → ClaimedAnswer c m' r
+  claimed (Some e) t c w p =
       subst (Claimed c e.end e.count) t.2.1
       (ends_as_claimed c w (subst (λ n. n ≤ largest_slice) p.limited p.short) K H e.end e.count t.2.0 (as_posed c p K H t.2.2))
-  claimed None loaded t c w p =
-      let q = t loaded p.admitted in
+  claimed None t c w p =
+      let q = t (subst Loaded (sym p.table) w.loaded) p.admitted in
       not_running c w (subst (λ n. n ≤ largest_slice) p.limited p.short) K H q.0 q.1.0 (as_posed c p K H q.1.2)

@@ -2,6 +2,7 @@
 ghost use Rattle.std.specs.Prelude.{◌≡◌, length};
 ghost use Rattle.stack.specs.Contents.{places};
 ghost use Rattle.table.specs.Places.{table_of};
+ghost use Rattle.transition.specs.Steps.{Keeps};
 ghost use Rattle.semantics.specs.Worked.{Case, Worked};
 ghost use Rattle.worked.specs.Claimed.{ClaimedAnswer, Poses};
 ghost use Rattle.worked.specs.Outcomes.{Tells, ComesTo};
@@ -21,8 +22,8 @@ fn whole_run<S: Store>(
     machine: &mut Machine<'_, S>,
     limit: u32,
 ) -> Option<Ended>
-    ensures tells { Tells (table_of program.now) (places machine.old.stacks.control) (places machine.old.stacks.results) limit (S.cells machine.old.store) (S.cells machine.new.store) result }
-    ensures keeps { S.rests machine.new.store ≡ S.rests machine.old.store }
+    ensures tells { Tells (table_of program.now) (places machine.old.stacks.control) (places machine.old.stacks.results) limit (S.cells machine.old.store.now) (S.cells machine.new.store.now) result }
+    ensures keeps { Keeps S.rests machine.old machine.new }
 {
     let running = begin(program, machine, limit).ok()?;
     match go_on(running, program, machine, LARGEST_SLICE) {
@@ -36,6 +37,29 @@ fn whole_run<S: Store>(
             None
         }
     }
+}
+
+// The run of `outcome`, on stacks of just so many places as loading the table answers.
+fn run_on_needs<S: Store>(
+    words: &[u32],
+    store: &mut S,
+    limit: u32,
+    control: &mut [Control],
+    results: &mut [Item],
+) -> Option<Ended>
+    ensures comes { ComesTo words.now (length control.old) (length results.old) limit (S.cells store.old) (S.cells store.new) result }
+    ensures keeps { S.rests store.new ≡ S.rests store.old }
+{
+    let mut program = Program::new();
+    let needs = program.load(words).ok()?;
+    let control = control.get_mut(..needs.control as usize)?;
+    let results = results.get_mut(..needs.results as usize)?;
+    let mut machine = Machine::new(control, results, store);
+    let ended = whole_run(&program, &mut machine, limit);
+    // Taken apart by name, the machine gives the store back, and with it what the run left there.
+    let Machine { stacks: _, store } = machine;
+    let _ = store;
+    ended
 }
 
 /// Runs the table over the store's cells, on stacks of as many places as loading it answers, and says
@@ -54,9 +78,5 @@ pub fn outcome<S: Store>(
     ensures claimed { (c : Case) → Worked c → Poses c words.now (length control.old) (length results.old) limit (S.cells store.old) → ClaimedAnswer c (S.cells store.new) result }
     ensures keeps { S.rests store.new ≡ S.rests store.old }
 {
-    let mut program = Program::new();
-    let needs = program.load(words).ok()?;
-    let control = control.get_mut(..needs.control as usize)?;
-    let results = results.get_mut(..needs.results as usize)?;
-    whole_run(&program, &mut Machine::new(control, results, store), limit)
+    run_on_needs(words, store, limit, control, results)
 }

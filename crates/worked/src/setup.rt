@@ -81,18 +81,18 @@ impl Setup {
         ensures { SetUp (case_of number) result }
     {
         match number {
-            1 => Some(Setup::new(tables::skip(), &[])),
-            2 => Some(Setup::new(tables::put_seven(), &[])),
-            3 => Some(Setup::new(tables::one_over_zero(), &[])),
-            4 => Some(Setup::new(tables::copy_nine(), &[])),
-            5 => Some(Setup::new(tables::endless(), &[]).limited(100)),
-            6 => Some(Setup::new(tables::false_and_fault(), &[])),
-            7 => Some(Setup::new(tables::factorial(), &FOUR)),
-            8 => Some(Setup::new(tables::factorial(), &THIRTEEN)),
-            9 => Some(Setup::new(tables::exchange(), &TWO_AND_FOUR)),
-            10 => Some(Setup::new(tables::lowest_over_minus_one(), &[])),
-            11 => Some(Setup::new(tables::minus_seven_over_two(), &[])),
-            12 => Some(Setup::new(tables::put_seven(), &[]).limited(2)),
+            1 => Some(Setup::new(tables::SKIP, &[])),
+            2 => Some(Setup::new(tables::PUT_SEVEN, &[])),
+            3 => Some(Setup::new(tables::ONE_OVER_ZERO, &[])),
+            4 => Some(Setup::new(tables::COPY_NINE, &[])),
+            5 => Some(Setup::new(tables::ENDLESS, &[]).limited(100)),
+            6 => Some(Setup::new(tables::FALSE_AND_FAULT, &[])),
+            7 => Some(Setup::new(tables::FACTORIAL, &FOUR)),
+            8 => Some(Setup::new(tables::FACTORIAL, &THIRTEEN)),
+            9 => Some(Setup::new(tables::EXCHANGE, &TWO_AND_FOUR)),
+            10 => Some(Setup::new(tables::LOWEST_OVER_MINUS_ONE, &[])),
+            11 => Some(Setup::new(tables::MINUS_SEVEN_OVER_TWO, &[])),
+            12 => Some(Setup::new(tables::PUT_SEVEN, &[]).limited(2)),
             _ => None,
         }
     }

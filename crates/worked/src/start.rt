@@ -19,7 +19,7 @@ impl Holding {
     pub fn record(self) -> Record
         ensures { cell_of result ≡ (held_at self).1 }
     {
-        Record::new(KnownCell::widest(Some(self.number)))
+        Record::from(KnownCell::widest(Some(self.number)))
     }
 }
 
@@ -27,7 +27,7 @@ impl Holding {
 pub fn records_with(start: &[Holding]) -> [Record; 256]
     ensures { (l : ℕ) → sheet_cells result l ≡ cells_with (held start.now) l }
 {
-    let mut records = [Record::new(KnownCell::widest(None)); 256];
+    let mut records = [Record::from(KnownCell::widest(None)); 256];
     // From the last to the first, so that of two at one location the first counts.
     for holding in start.iter().rev() {
         records[holding.location as usize] = holding.record();

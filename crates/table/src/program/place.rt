@@ -16,14 +16,9 @@ use rows::row::{Row, row_at};
 // What a place holds before anything is loaded: one row, skip.
 const SKIP: [u32; 4] = [7, 0, 0, 0];
 
-fn skip<'a>() -> &'a [u32]
-    ensures { result.now ≡ 7 ∷ 0 ∷ 0 ∷ 0 ∷ [] }
-{
-    &SKIP
-}
-
 impl<'a> Program<'a> {
     /// A place that holds the table of the one row skip.
+    #[tactic(auto, using(crate::proofs::Held::skip_accepted))]
     pub fn new() -> Program<'a>
         ensures { Accepted (7 ∷ 0 ∷ 0 ∷ 0 ∷ []) result }
     {
@@ -31,7 +26,7 @@ impl<'a> Program<'a> {
             control: 1,
             results: 0,
         };
-        Program::holding(skip(), needs)
+        Program::holding(&SKIP, needs)
     }
 
     // A place that holds the words, which have got a yes to every question.
@@ -78,5 +73,13 @@ impl<'a> Program<'a> {
         ensures { result ≡ row_at (table_of self.now) p }
     {
         row_at(self.words, p)
+    }
+}
+
+impl Default for Program<'_> {
+    ghost is_default = { Accepted (7 ∷ 0 ∷ 0 ∷ 0 ∷ []) };
+
+    fn default() -> Self {
+        Program::new()
     }
 }

@@ -1,44 +1,52 @@
-use Rattle.std.proofs.Common.{sym, ◌∙◌, arith, length-set, below_more}
+use Rattle.std.proofs.Common.{◌<◌, [], length, replicate, slice_index_or, sym, ap, ◌∙◌, arith, below_more}
 use Rattle.std.proofs.lemmas.Result.{err_from_is_err_and}
+use Rattle.rows.proofs.Chunks.{words_in_chunk}
+use Rattle.loading.specs.Surveys.{RowPasses, known_of}
 use Rattle.loading.proofs.Order.{first_no}
-use Rattle.loading.proofs.Passing.{words_there, words_gone}
-use Rattle.loading.proofs.Spared.{needs_none, needs_within, needs_stay, known_more}
+use Rattle.loading.proofs.Passing.{each_part, parts_lower, row_within}
+use Rattle.loading.proofs.Spared.{known_none, needs_none, needs_stay, known_more, more_within}
 use Rattle.loading.proofs.survey.survey_rows.Goals as goal
-use Rattle.loading.specs.Surveys.{RowPasses}
 
-pub rows-init : goal.rows-init
-rows-init c = (omega arith, λ k h. absurd (omega arith), c.requires.room, λ k. c.requires.blank k ∙ sym (needs_none c.args.table.now k))
+pub loop-p-init : goal.loop-p-init
+loop-p-init c = record {
+  passed = λ k h. absurd (omega arith);
+  needs = λ k. ap (λ n. known_of (replicate 4096 n) k) c.default-known.ensures ∙ known_none 4096 k ∙ sym (needs_none c.args.table.now k);
+}
 
-pub returns-in_err-check_row : goal.returns-in_err-check_row
-returns-in_err-check_row c =
-    let here = words_there c.args.table.now c.rows.p c.in-Some.words (sym c.words_at.ensures ∙ c.in-Some.is) in
+pub check_row-requires : goal.check_row-requires
+check_row-requires c =
+    c.from.ensures
+    ∙ words_in_chunk c.args.table.now c.loop-p.p _ (omega arith) (ap (λ l. slice_index_or l c.loop-p.p []) c.as_chunks.ensures.front)
+
+pub returns-in_err-row : goal.returns-in_err-row
+returns-in_err-row c =
     let p = err_from_is_err_and c.from_residual.result c.from_residual.ensures.1 in
     rw (p.1, p.2)
-    (first_no c.args.table.now c.rows.p here.0 c.requires.long c.rows.invariant.1 _ c.in_err-check_row.ensures)
+    (first_no c.args.table.now c.loop-p.p (omega arith) c.requires c.loop-p.invariant.passed _ c.in_err-row.ensures)
 
-pub row_needs-requires : goal.row_needs-requires
-row_needs-requires c =
-    let here = words_there c.args.table.now c.rows.p c.in-Some.words (sym c.words_at.ensures ∙ c.in-Some.is) in
+pub needs_of-requires : goal.needs_of-requires
+needs_of-requires c =
+    each_part (λ _ x. x < c.loop-p.p) (λ _ x. x < length c.loop-p.known) (λ _ x h. omega arith) c.in_ok-row.row
+    (parts_lower c.args.table.now c.loop-p.p c.in_ok-row.ensures.0 c.in_ok-row.row c.in_ok-row.ensures.1)
+
+pub new-requires : goal.new-requires
+new-requires c =
+    let row = row_within c.args.table.now c.loop-p.p (omega arith) ∙ c.in_ok-row.ensures.1 in
+    let h = more_within c.args.table.now c.loop-p.known c.loop-p.p c.loop-p.invariant.needs c.in_ok-row.row row c.needs_of.result c.needs_of.ensures in
+    (omega arith, omega arith)
+
+pub loop-p-preserved : goal.loop-p-preserved
+loop-p-preserved c =
+    let row = row_within c.args.table.now c.loop-p.p (omega arith) ∙ c.in_ok-row.ensures.1 in
     record {
-      there = here;
-      within = omega arith;
-      passes = c.in_ok-check_row.ensures;
-      small = λ x. let h = needs_within c.args.table.now c.rows.p x in rw (c.rows.invariant.3 x) (omega arith, omega arith);
+      passed = below_more (RowPasses c.args.table.now) c.loop-p.p c.loop-p.invariant.passed c.in_ok-row.ensures.0;
+      needs =
+          known_more c.args.table.now c.loop-p.known c.loop-p.p c.loop-p.invariant.needs c.in_ok-row.row row c.new.result
+          (c.new.ensures ∙ c.needs_of.ensures) (omega arith);
     }
-
-pub rows-preserved : goal.rows-preserved
-rows-preserved c =
-    let here = words_there c.args.table.now c.rows.p c.in-Some.words (sym c.words_at.ensures ∙ c.in-Some.is) in (
-      omega arith,
-      below_more (RowPasses c.args.table.now) c.rows.p c.rows.invariant.1 c.in_ok-check_row.ensures,
-      length-set c.rows.known c.rows.p c.row_needs.result ∙ c.rows.invariant.2,
-      known_more c.args.table.now c.rows.known c.rows.p c.row_needs.result (omega arith) c.rows.invariant.3 c.row_needs.ensures,
-    )
 
 pub returns : goal.returns
-returns c =
-    let end = words_gone c.args.table.now c.rows.p (sym c.words_at.ensures ∙ c.in_default.is) in
-    record {
-      passes = λ k h. c.rows.invariant.1 k (omega arith);
-      needs = λ k h. c.rows.invariant.3 k ∙ needs_stay c.args.table.now c.rows.p k (omega arith);
-    }
+returns c = record {
+  passes = λ k h. c.loop-p.invariant.passed k (omega arith);
+  needs = λ k h. c.loop-p.invariant.needs k ∙ needs_stay c.args.table.now c.loop-p.p k (omega arith);
+}

@@ -1,35 +1,30 @@
-use Rattle.std.proofs.Common.{◌≡◌, ℕ, ◌-◌, ◌<◌, ◌≤◌, length, get_or, drop, pos, sym, refl, ap, ◌∙◌, arith, length-set}
-use Rattle.std.proofs.lemmas.List.{drop_all}
+use Rattle.std.proofs.Common.{◌≡◌, ◌<◌, [], ◌∷◌, sym, ap, ◌∙◌, append-nil, length-set, arith, refl, rules}
 use Rattle.semantics.specs.Worked.{cells_with}
-use Rattle.sheet.specs.Sheets.{sound, sheet_cells}
-use Rattle.worked.specs.declared.start.Holding.{Holding}
+use Rattle.sheet.specs.Sheets.{sound}
 use Rattle.worked.specs.Setups.{held}
-use Rattle.worked.proofs.Cells.{plain, one_more}
+use Rattle.worked.proofs.Cells.{plain, one_more, one_left, all_done}
 use Rattle.worked.proofs.start.records_with.Goals as goal
 
-pub loop-left-init : goal.loop-left-init
-loop-left-init c =
-    let all = c.args.start.now in
-    let le : length all ≤ length all = omega arith in (
-      le,
-      refl,
-      λ k. plain c.new-records.result (c.new-records.ensures.stands ∙ ap sound c.widest.ensures) k ∙ ap (λ hs. cells_with (held hs) k) (sym (drop_all (length all) all le)),
-    )
+pub loop-holding-init : goal.loop-holding-init
+loop-holding-init c =
+    let all : c.args.start.now ≡ c.into_iter-holding-iterator.result.iter.rest.now = search rules in
+    (refl, ([], all ∙ sym (append-nil c.into_iter-holding-iterator.result.iter.rest.now), plain c.from-records.result (c.from-records.ensures.1 ∙ ap sound c.widest.ensures)))
 
-pub loop-left-preserved : goal.loop-left-preserved
-loop-left-preserved c =
-    let all = c.args.start.now in
-    let i = c.loop-left.left in
-    let none : Holding = record { location = 0; number = pos 0 } in
-    let small : (get_or all (i - 1) none).location < 256 = omega arith in (
-      omega (arith, c.loop-left.invariant.0),
-      length-set _ _ _ ∙ c.loop-left.invariant.1,
-      one_more all i none c.loop-left.records c.record.result c.loop-left-test.true c.loop-left.invariant.0 c.loop-left.invariant.1 small c.record.ensures c.loop-left.invariant.2,
+pub loop-holding-preserved : goal.loop-holding-preserved
+loop-holding-preserved c =
+    let inv = c.loop-holding.invariant in
+    let h = c.in-Some.holding.now in
+    let small : h.location < 256 = omega arith in (
+      length-set _ _ _ ∙ inv.0,
+      (
+        h ∷ inv.1.0,
+        one_left c.args.start.now c.loop-holding.holding-iterator.iter.rest.now c.next.new.self.iter.rest.now inv.1.0 h inv.1.1 c.in-Some.ensures.steps,
+        one_more inv.1.0 h c.loop-holding.records c.record.result inv.0 small c.record.ensures inv.1.2,
+      ),
     )
 
 pub returns : goal.returns
 returns c =
-    let none : c.loop-left.left ≡ 0 = omega (arith, c.loop-left-test.false) in
-    let same : (k : ℕ) → sheet_cells c.loop-left.records k ≡ cells_with (held (drop 0 c.args.start.now)) k =
-    λ k. c.loop-left.invariant.2 k ∙ ap (λ i. cells_with (held (drop i c.args.start.now)) k) none in
-    same
+    let inv = c.loop-holding.invariant in
+    let all = all_done c.args.start.now c.loop-holding.holding-iterator.iter.rest.now inv.1.0 inv.1.1 c.in-None.ensures.steps.0 in
+    λ k. inv.1.2 k ∙ ap (λ hs. cells_with (held hs) k) (sym all)

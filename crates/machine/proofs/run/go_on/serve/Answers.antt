@@ -12,18 +12,18 @@ use Rattle.machine.proofs.run.go_on.serve.Goals as goal
 pub returns-in-Some-clause-serves : goal.returns-in-Some-clause-serves
 returns-in-Some-clause-serves g c =
     let stacks = c.loop.machine.stacks in
-    c.loop.invariant.1 _ (ends (contents stacks.control) (contents stacks.results) (g.S.Store.cells c.loop.machine.store) _ _ _ _ _ _ c.in-Some.ensures)
+    c.loop.invariant.1 _ (ends (contents stacks.control) (contents stacks.results) (g.S.Store.cells c.loop.machine.store.now) _ _ _ _ _ _ c.in-Some.ensures)
 
 pub returns-in-Some-look-clause-serves : goal.returns-in-Some-look-clause-serves
 returns-in-Some-look-clause-serves g c =
     let stacks = c.loop.machine.stacks in
-    c.loop.invariant.1 _ (ends (contents stacks.control) (contents stacks.results) (g.S.Store.cells c.loop.machine.store) _ _ _ _ _ _ c.in-Some-look.ensures)
+    c.loop.invariant.1 _ (ends (contents stacks.control) (contents stacks.results) (g.S.Store.cells c.loop.machine.store.now) _ _ _ _ _ _ c.in-Some-look.ensures)
 
 pub returns-in-None-clause-serves : goal.returns-in-None-clause-serves
 returns-in-None-clause-serves g c =
     let k = room c.args.machine.now.stacks in
     let stacks = c.loop.machine.stacks in
-    let m = g.S.Store.cells c.loop.machine.store in
+    let m = g.S.Store.cells c.loop.machine.store.now in
     let on = goes_on (contents stacks.control) (contents stacks.results) m c.args.running.limit c.loop.made c.in-None.ensures in
     let none_left : c.args.slice - c.loop.counter ≡ 0 = omega (arith, c.loop-test.false) in
     c.loop.invariant.1 _ (pausing (row_at (table_of c.args.program.now)) k k refl c.args.running.limit _ c.loop.made _ on.0 on.1 none_left)
@@ -32,7 +32,7 @@ pub returns-in-Err-clause-serves : goal.returns-in-Err-clause-serves
 returns-in-Err-clause-serves g c =
     let k = room c.args.machine.now.stacks in
     let stacks = c.loop.machine.stacks in
-    let m = g.S.Store.cells c.loop.machine.store in
+    let m = g.S.Store.cells c.loop.machine.store.now in
     let on = goes_on (contents stacks.control) (contents stacks.results) m c.args.running.limit c.loop.made c.in_default.ensures in
     let left : 0 < c.args.slice - c.loop.counter = omega (arith, c.loop-test.true) in
     c.loop.invariant.1 _
@@ -45,7 +45,7 @@ pub loop-preserved : goal.loop-preserved
 loop-preserved g c =
     let k = room c.args.machine.now.stacks in
     let stacks = c.loop.machine.stacks in
-    let m = g.S.Store.cells c.loop.machine.store in
+    let m = g.S.Store.cells c.loop.machine.store.now in
     let rows = row_at (table_of c.args.program.now) in
     let on = goes_on (contents stacks.control) (contents stacks.results) m c.args.running.limit c.loop.made c.in_default.ensures in
     let left : 0 < c.args.slice - c.loop.counter = omega (arith, c.loop-test.true) in

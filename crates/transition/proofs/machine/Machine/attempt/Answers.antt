@@ -14,6 +14,7 @@ returns-in_ok-row-in-Whole g c =
     let top : Some (Whole p) ≡ first (contents before.stacks.control) = search rules in
     let there : Some c.in_ok-row-in-Whole.row ≡ row_at (table_of c.args.program.now) p = search rules in
     record {
-      did = opened_top (room before.stacks) _ (row_at (table_of c.args.program.now)) (g.S.Store.cells before.store) _ _ p _ _ there top c.whole.ensures;
-      keeps = refl;
+      did = opened_top (room before.stacks) _ (row_at (table_of c.args.program.now)) (g.S.Store.cells before.store.now) _ _ p _ _ there top c.whole.ensures;
+      lent = refl;
+      ground = refl;
     }

@@ -21,9 +21,9 @@ returns g c =
     let did = c.attempt.ensures.did in
     let told =
     subst₂ (Tried (row_at table) (places control) (places results) (configuration cells before)) (sym did.answers) (sym did.leaves)
-    (tries (row_at table) (room before.stacks) (cells before.store) (contents control) (contents results) (bounded control) (bounded results)) in
+    (tries (row_at table) (room before.stacks) (cells before.store.now) (contents control) (contents results) (bounded control) (bounded results)) in
     record {
       tries = told;
       simp = simulated table (held c.args.program.now) (places control) (places results) _ _ _ told;
-      keeps = record { places = did.keeps; ground = c.attempt.ensures.keeps };
+      keeps = record { places = did.keeps; lent = c.attempt.ensures.lent; ground = c.attempt.ensures.ground };
     }

@@ -9,4 +9,4 @@ returns c =
     let n = c.args.self.number in
     let fits : SFits w32 n = search rules in
     let w = simp to_z-of_z at c.widest.ensures in
-    c.new.ensures.stands ∙ ap sound w ∙ fitting n fits
+    c.from.ensures.1 ∙ ap sound w ∙ fitting n fits
