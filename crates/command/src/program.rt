@@ -10,13 +10,13 @@ use std::process::ExitCode;
 
 /// What a program tells of itself.
 #[derive(Clone, Copy)]
-pub struct Program {
+pub struct Command {
     /// Its name, as messages begin.
     pub name: &'static str,
     pub help: &'static str,
 }
 
-impl Program {
+impl Command {
     // Tells the help, or does the work on all of standard input.
     fn serve<W, F: FnOnce(&HostRuntime, &[u8]) -> Result<(), Trouble<W>>>(
         &self,

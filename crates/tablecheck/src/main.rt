@@ -3,7 +3,7 @@
 
 use crate::checked::checked;
 use crate::complaint::Complaint;
-use command::program::Program;
+use command::program::Command;
 use command::trouble::Trouble;
 use fields::read::ReadError;
 use std::process::ExitCode;
@@ -14,7 +14,7 @@ mod line;
 #[cfg(test)]
 mod tests;
 
-const TABLECHECK: Program = Program {
+const TABLECHECK: Command = Command {
     name: "tablecheck",
     help: "usage: tablecheck < TABLE
 
