@@ -1,4 +1,6 @@
 // The boards of a job, run two by two.
+ghost use Rattle.std.specs.Prelude.{◌≡◌};
+
 use crate::memory::{CellMemory, Scratch};
 use cells::cell::Cell;
 use history::follow::{Fate, follow};
@@ -7,8 +9,12 @@ use history::two_boards::two_boards;
 use job::job::Job;
 use job::{BoardLine, Make};
 use machine::run::{BeginRefusal, Ended, Progress};
+use pair_list::pairs::PairList;
+use sheet::sheet::Sheet;
 use std::alloc::{AllocError, Global};
+use store::cover::Cover;
 use store::known::KnownCells;
+use store::neighbours::Neighbours;
 use store::store::Store;
 use table::program::Program;
 use transition::machine::Machine;
@@ -81,84 +87,173 @@ impl Bench {
 
     fn outcome(self, told: Told) -> Outcome {
         let (standing, cells) = told;
+        let Bench {
+            make,
+            memory: _,
+            scratch,
+        } = self;
         Outcome {
-            make: self.make,
+            make,
             standing,
-            turns: self.scratch.turns,
+            turns: scratch.turns,
             cells,
         }
     }
 }
 
+// The body, at the store of the make over that memory: a function has no parameter for what holds of any
+// make, so each make has a copy of its own.
+macro_rules! at_store {
+    ($make:expr, $memory:expr, $store:ident => $body:expr) => {
+        match $make {
+            Make::Sheet => {
+                let mut $store = Sheet::new(&mut $memory.records);
+                $body
+            }
+            Make::Cover(first, last) => {
+                let mut $store = Cover::new(Sheet::new(&mut $memory.records), first, last);
+                $body
+            }
+            Make::Neighbours(split) => {
+                let left = Sheet::new(&mut $memory.records);
+                let right = Sheet::new(&mut $memory.next);
+                let mut $store = Neighbours::new(left, right, split);
+                $body
+            }
+            Make::Pairs => {
+                let mut $store = PairList::new($memory.words.as_mut_slice());
+                $body
+            }
+        }
+    };
+}
+
 // One board by itself.
-fn run_one(program: &Program<'_>, limit: u32, bench: &mut Bench) -> Told {
-    let Bench {
-        make,
-        memory,
-        scratch,
-    } = bench;
-    let mut store = memory.store(*make);
+fn run_one<S: Store>(
+    program: &Program<'_>,
+    limit: u32,
+    store: &mut S,
+    scratch: &mut Scratch,
+) -> Told
+    ensures { S.rests store.new ≡ S.rests store.old }
+{
     let mut machine = Machine::new(
         scratch.control.as_mut_slice(),
         scratch.results.as_mut_slice(),
-        &mut store,
+        &mut *store,
     );
     let fate = follow(program, &mut machine, limit, scratch.turns.as_mut_slice());
-    (Standing::of(fate), cells_of(&store))
+    // Taken apart by name, the machine gives the store back as it was lent.
+    let Machine {
+        stacks: _,
+        store: lent,
+    } = machine;
+    let _ = lent;
+    (Standing::of(fate), cells_of(&*store))
 }
 
 // Two boards, of whatever makes.
-fn run_two(
+fn run_two<A: Store, B: Store>(
     program: &Program<'_>,
     limit: u32,
-    first: &mut Bench,
-    second: &mut Bench,
-) -> (Told, Told) {
-    let mut store1 = first.memory.store(first.make);
+    store1: &mut A,
+    scratch1: &mut Scratch,
+    store2: &mut B,
+    scratch2: &mut Scratch,
+) -> (Told, Told)
+    ensures { (A.Store.rests store1.new ≡ A.Store.rests store1.old) × (B.Store.rests store2.new ≡ B.Store.rests store2.old) }
+{
     let mut machine1 = Machine::new(
-        first.scratch.control.as_mut_slice(),
-        first.scratch.results.as_mut_slice(),
-        &mut store1,
+        scratch1.control.as_mut_slice(),
+        scratch1.results.as_mut_slice(),
+        &mut *store1,
     );
-    let mut store2 = second.memory.store(second.make);
     let mut machine2 = Machine::new(
-        second.scratch.control.as_mut_slice(),
-        second.scratch.results.as_mut_slice(),
-        &mut store2,
+        scratch2.control.as_mut_slice(),
+        scratch2.results.as_mut_slice(),
+        &mut *store2,
     );
     let (fate1, fate2) = two_boards(
         program,
         limit,
         &mut machine1,
-        first.scratch.turns.as_mut_slice(),
+        scratch1.turns.as_mut_slice(),
         &mut machine2,
-        second.scratch.turns.as_mut_slice(),
+        scratch2.turns.as_mut_slice(),
     );
+    let Machine {
+        stacks: _,
+        store: lent1,
+    } = machine1;
+    let Machine {
+        stacks: _,
+        store: lent2,
+    } = machine2;
+    let (_, _) = (lent1, lent2);
     (
-        (Standing::of(fate1), cells_of(&store1)),
-        (Standing::of(fate2), cells_of(&store2)),
+        (Standing::of(fate1), cells_of(&*store1)),
+        (Standing::of(fate2), cells_of(&*store2)),
     )
 }
 
-/// What each board of the job did, in their order: they are run two by two, and an odd one by itself.
-pub fn run_all(
-    heap: Global,
+// A board, over the store of its make.
+fn run_board(program: &Program<'_>, limit: u32, bench: &mut Bench) -> Told {
+    let Bench {
+        make,
+        memory,
+        scratch,
+    } = bench;
+    at_store!(*make, memory, store => run_one(program, limit, &mut store, scratch))
+}
+
+// A second board, over the store of its make, beside the first one's store.
+fn run_beside<A: Store>(
     program: &Program<'_>,
-    job: &Job,
-) -> Result<Vec<Outcome>, AllocError> {
+    limit: u32,
+    store1: &mut A,
+    scratch1: &mut Scratch,
+    second: &mut Bench,
+) -> (Told, Told)
+    ensures { A.rests store1.new ≡ A.rests store1.old }
+{
+    let Bench {
+        make,
+        memory,
+        scratch,
+    } = second;
+    at_store!(*make, memory, store2 => run_two(program, limit, store1, scratch1, &mut store2, scratch))
+}
+
+// Two boards, the first over the store of its make.
+fn run_boards(
+    program: &Program<'_>,
+    limit: u32,
+    first: &mut Bench,
+    second: &mut Bench,
+) -> (Told, Told) {
+    let Bench {
+        make,
+        memory,
+        scratch,
+    } = first;
+    at_store!(*make, memory, store1 => run_beside(program, limit, &mut store1, scratch, second))
+}
+
+/// What each board of the job did, in their order: they are run two by two, and an odd one by itself.
+pub fn run_all(heap: Global, program: &Program<'_>, job: &Job) -> Result<Vec<Outcome>, AllocError> {
     let mut outcomes = Vec::new(heap);
     for boards in job.boards.as_slice().chunks(2) {
         match boards {
             [first, second] => {
                 let mut bench1 = Bench::new(heap, first, &job.cells)?;
                 let mut bench2 = Bench::new(heap, second, &job.cells)?;
-                let (told1, told2) = run_two(program, job.limit, &mut bench1, &mut bench2);
+                let (told1, told2) = run_boards(program, job.limit, &mut bench1, &mut bench2);
                 outcomes.push(bench1.outcome(told1))?;
                 outcomes.push(bench2.outcome(told2))?;
             }
             [odd] => {
                 let mut bench = Bench::new(heap, odd, &job.cells)?;
-                let told = run_one(program, job.limit, &mut bench);
+                let told = run_board(program, job.limit, &mut bench);
                 outcomes.push(bench.outcome(told))?;
             }
             _ => {}

@@ -12,7 +12,6 @@ use std::process::ExitCode;
 use table::program::Program;
 
 mod bench;
-mod board_store;
 mod memory;
 mod report;
 mod verdict;

@@ -1,15 +1,10 @@
 // The memory that a board lends to its store, its stacks and its plan.
-use crate::board_store::BoardStore;
 use cells::cell::{Cell, KnownCell};
 use history::turn::{Seen, Turn};
 use job::{BoardLine, Make};
-use pair_list::pairs::PairList;
 use semantics::item::{Control, Item};
 use sheet::record::Record;
-use sheet::sheet::Sheet;
 use std::alloc::{AllocError, Global};
-use store::cover::Cover;
-use store::neighbours::Neighbours;
 
 /// What a board has besides its cells.
 #[derive(Drop)]
@@ -45,9 +40,9 @@ impl Scratch {
 /// make uses what it needs of these.
 #[derive(Drop)]
 pub struct CellMemory {
-    records: [Record; 256],
-    next: [Record; 256],
-    words: Vec<i32>,
+    pub records: [Record; 256],
+    pub next: [Record; 256],
+    pub words: Vec<i32>,
 }
 
 // The location at which the second of two neighbours begins; past the last, where there is one store only.
@@ -71,17 +66,16 @@ fn records_of(cells: &[Cell]) -> [Record; 256] {
 
 impl CellMemory {
     /// The cells, laid out as the make has them.
-    pub fn new(
-        heap: Global,
-        make: Make,
-        cells: &[Cell; 256],
-    ) -> Result<CellMemory, AllocError> {
-        let (own, others) = cells.split_at(split(make));
+    pub fn new(heap: Global, make: Make, cells: &[Cell; 256]) -> Result<CellMemory, AllocError> {
+        let (own, others) = cells.split_at(split(make).min(256));
         let mut words = Vec::new(heap);
         for (i, cell) in cells.iter().enumerate() {
-            if let Cell::Known(KnownCell {
-                content: Some(n), ..
-            }) = cell
+            if let Cell::Known(
+                KnownCell {
+                    content: Some(n),
+                    ..
+                },
+            ) = cell
             {
                 words.push(i as i32)?;
                 words.push(*n)?;
@@ -92,21 +86,5 @@ impl CellMemory {
             next: records_of(others),
             words,
         })
-    }
-
-    /// The store of the make, over this memory.
-    pub fn store(&mut self, make: Make) -> BoardStore<'_> {
-        match make {
-            Make::Sheet => BoardStore::Sheet(Sheet::new(&mut self.records)),
-            Make::Cover(first, last) => {
-                BoardStore::Cover(Cover::new(Sheet::new(&mut self.records), first, last))
-            }
-            Make::Neighbours(split) => BoardStore::Neighbours(Neighbours::new(
-                Sheet::new(&mut self.records),
-                Sheet::new(&mut self.next),
-                split,
-            )),
-            Make::Pairs => BoardStore::Pairs(PairList::new(self.words.as_mut_slice())),
-        }
     }
 }
