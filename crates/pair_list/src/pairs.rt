@@ -67,6 +67,7 @@ impl Store for PairList<'_> {
             .map_or(Cell::Unknown, |i| listed(self.words[i]))
     }
 
+    // An impl's own clauses replace the trait's: the first four are those, by the trait's own names.
     fn put(&mut self, location: u8, number: i32) -> Result<(), StoreFault>
         ensures answers { result ≡ put_answer (⟦<Self as Store>⟧.cells self.old location) location number }
         ensures writes { ⟦<Self as Store>⟧.cells self.new location ≡ put_left (⟦<Self as Store>⟧.cells self.old location) number }

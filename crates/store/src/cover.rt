@@ -28,12 +28,7 @@ impl<S> Cover<S> {
     pub fn into_under(self) -> S
         ensures { result ≡ self.under }
     {
-        let Cover {
-            under,
-            first: _,
-            last: _,
-        } = self;
-        under
+        self.under
     }
 
     /// Whether the location is covered.
@@ -64,6 +59,7 @@ impl<S: Store> Store for Cover<S> {
         }
     }
 
+    // An impl's own clauses replace the trait's: the first four are those, by the trait's own names.
     fn put(&mut self, location: u8, number: i32) -> Result<(), StoreFault>
         ensures answers { result ≡ put_answer (⟦<Self as Store>⟧.cells self.old location) location number }
         ensures writes { ⟦<Self as Store>⟧.cells self.new location ≡ put_left (⟦<Self as Store>⟧.cells self.old location) number }

@@ -28,12 +28,7 @@ impl<L, R> Neighbours<L, R> {
     pub fn into_parts(self) -> (L, R)
         ensures { (result.0 ≡ self.left) × (result.1 ≡ self.right) }
     {
-        let Neighbours {
-            left,
-            right,
-            split: _,
-        } = self;
-        (left, right)
+        (self.left, self.right)
     }
 }
 
@@ -56,6 +51,7 @@ impl<L: Store, R: Store> Store for Neighbours<L, R> {
         }
     }
 
+    // An impl's own clauses replace the trait's: the first four are those, by the trait's own names.
     fn put(&mut self, location: u8, number: i32) -> Result<(), StoreFault>
         ensures answers { result ≡ put_answer (⟦<Self as Store>⟧.cells self.old location) location number }
         ensures writes { ⟦<Self as Store>⟧.cells self.new location ≡ put_left (⟦<Self as Store>⟧.cells self.old location) number }
