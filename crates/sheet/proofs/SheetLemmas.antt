@@ -1,5 +1,5 @@
 -- A put into a list of records.
-use Rattle.std.proofs.Common.{rules, ◌≡◌, ℕ, ◌<◌, true, List, length, get_or, set, ℤ, inl, inr}
+use Rattle.std.proofs.Common.{rules, ◌≡◌, ℕ, ◌<◌, true, List, length, get_or, set, ℤ, inl, inr, get_or-set_other}
 use Rattle.std.proofs.lemmas.Bool.{cases_lt}
 use Rattle.std.proofs.lemmas.List.{get_or_past}
 use Rattle.sheet.specs.declared.record.Record.{Record}
@@ -21,3 +21,7 @@ module _ (rs : List Record) (l : ℕ) (n : ℤ) (small : l < 256) (ok : accepts 
 
   pub set_writes : sheet_cells (set rs l (with_number (get_or rs l blank) n)) l ≡ put_left (sheet_cells rs l) n
   set_writes = let inside = recorded in search (rules, numbered_cell)
+
+-- a record that is set leaves every other location's cell
+pub set_spares : (rs : List Record) (l : ℕ) (q : Record) (k : ℕ) → (k ≡ l → ⊥) → sheet_cells (set rs l q) k ≡ sheet_cells rs k
+set_spares rs l q k ne = rw (get_or-set_other rs l k q blank ne)
