@@ -4,6 +4,7 @@
 use crate::bench::{Outcome, run_all};
 use crate::report::report;
 use crate::verdict::verdict_on;
+use command::program::Command;
 use command::trouble::Trouble;
 use job::bad_line::BadLine;
 use job::job::Job;
@@ -16,7 +17,7 @@ mod memory;
 mod report;
 mod verdict;
 
-const BOARDS: command::program::Program = command::program::Program {
+const BOARDS: Command = Command {
     name: "boards",
     help: "usage: boards < JOB
 
