@@ -39,7 +39,6 @@ impl<T: Drop> From<AllocFailed<T>> for ReadError {
 
 // The number that a field of the text writes.
 fn number_in(text: &[u8], field: Span) -> Result<u32, ReadError>
-    requires { (field.start ≤ field.end) × (field.end ≤ length text.now) }
     ensures { MatchResult result (λ n. Word (bytes_of text.now field) × (n ≡ number_of (bytes_of text.now field))) (λ e. ¬ Word (bytes_of text.now field) × (e ≡ NoNumber field)) }
 {
     unsigned(field.bytes(text)).ok_or(ReadError::NoNumber(field))

@@ -13,12 +13,13 @@ pub struct Span {
 }
 
 impl Span {
-    /// The bytes of the text that stand there.
+    /// The bytes of the text that stand there. An offset past the end is taken as the end, and an end
+    /// before the start as the start.
     pub fn bytes(self, text: &[u8]) -> &[u8]
-        requires { (self.start ≤ self.end) × (self.end ≤ length text.now) }
         ensures { result.now ≡ bytes_of text.now self }
     {
-        &text[self.start..self.end]
+        let end = self.end.min(text.len());
+        &text[self.start.min(end)..end]
     }
 }
 

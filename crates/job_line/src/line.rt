@@ -32,6 +32,7 @@ pub enum Keyword {
     Board,
 }
 
+// A match of its own, as `kind_of` of a make has: one function over both would take the names, the cases and the error.
 fn keyword_of(word: &[u8]) -> Result<Keyword, Wrong>
     ensures { MatchResult result (λ k. word.now ≡ keyword_of k) (Unheaded word.now) }
 {

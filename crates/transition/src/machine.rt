@@ -8,6 +8,7 @@ use stack::stack::Stack;
 
 /// The abstract machine of a run: its two stacks, over the store whose cells the rules read and put. All
 /// of it is lent.
+// The program stands beside a machine and not in it, since two machines of one promise have one program.
 #[derive(Drop)]
 pub struct Machine<'a, S> {
     pub stacks: StackPair<'a>,

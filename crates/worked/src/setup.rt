@@ -77,6 +77,7 @@ impl Setup {
     }
 
     /// The case with that number, from 1 to 12.
+    // A number and no enum: it is what the casebook prints for the case.
     pub fn numbered(number: u8) -> Option<Setup>
         ensures { SetUp (case_of number) result }
     {

@@ -5,6 +5,7 @@ ghost use Rattle.stack.specs.Contents.{contents, places, first, rest, fits, wher
 
 use super::{NoRoom, Stack};
 
+// Each call says for itself that the places stay: a fact of before and after, which no field or invariant can hold.
 impl<'a, T: Copy> Stack<'a, T> {
     /// An empty stack over the slice, with a place for each of its items.
     pub fn new(items: &'a mut [T]) -> Stack<'a, T>

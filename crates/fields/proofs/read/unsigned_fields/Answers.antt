@@ -15,9 +15,6 @@ so_far c = gone_all _ _ _ _ c.loop-field.yielded c.of-field-items.ensures c.into
 comes : (c : In-Some) → Next c.args.text.now (reached 0 c.loop-field.yielded) c.in-Some.field
 comes c = next_given (so_far c) c.in-Some.field c.in-Some.ensures.steps.0
 
-pub number_in-requires : goal.number_in-requires
-number_in-requires c = let next = comes (goal.at.number_in-requires c).In-Some in (omega (arith, next.order.1), next.order.2)
-
 pub returns-in_err-number_in : goal.returns-in_err-number_in
 returns-in_err-number_in c =
     let told = err_from_is_err_and c.from_residual.result c.from_residual.ensures.1 in
