@@ -3,7 +3,7 @@
 
 ghost use Rattle.stack.specs.Contents.{places};
 ghost use Rattle.table.specs.Places.{table_of};
-ghost use Rattle.transition.specs.Steps.{configuration};
+ghost use Rattle.transition.specs.Steps.{Keeps, configuration};
 ghost use Rattle.machine.specs.States.{board_after};
 ghost use Rattle.caller.specs.Frames.{Frames};
 
@@ -17,10 +17,11 @@ use transition::machine::Machine;
 pub fn two_frames<S: Store>(
     running: Running,
     program: &Program<'_>,
-    machine: &mut Machine<'_, S>,
+    machine: &mut Machine<'_, '_, S>,
     slice: u32,
 ) -> Result<Progress, TurnedDown>
-    ensures { Frames (table_of program.now) (places machine.old.stacks.control) (places machine.old.stacks.results) running.limit slice running.count (configuration S.cells machine.old) (board_after result (configuration S.cells machine.new)) }
+    ensures frames { Frames (table_of program.now) (places machine.old.stacks.control) (places machine.old.stacks.results) running.limit slice running.count (configuration S.cells machine.old) (board_after result (configuration S.cells machine.new)) }
+    ensures keeps { Keeps S.rests machine.old machine.new }
 {
     match go_on(running, program, machine, slice)? {
         Progress::Ended(ended) => Ok(Progress::Ended(ended)),

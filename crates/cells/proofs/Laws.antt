@@ -1,14 +1,22 @@
 -- The laws of cells, of reading and of putting, for proofs that do not open the definitions.
-use Rattle.std.proofs.Common.{◌≡◌, ℕ, ◌<◌, true, false, ℤ, None, Ok, Err, rules}
+use Rattle.std.proofs.Common.{◌≡◌, ℕ, ◌<◌, true, false, ℤ, Some, None, Ok, Err, rules}
 use mathlib.Core.Path.{fun_ext}
 use Rattle.cells.specs.declared.cell.Cell.{Cell}
 use Rattle.cells.specs.declared.fault.StoreFault.{StoreFault}
 use Rattle.cells.specs.Faults.{location_of}
 use Rattle.cells.specs.Cells.{Lawful, with_content, at_locations, Bounded, EqualCells}
 use Rattle.cells.specs.Reading.{reading}
-use Rattle.cells.specs.Putting.{accepts, put_left, after_put, put_answer}
+use Rattle.cells.specs.Putting.{accepts, admission, put_left, after_put, put_answer}
 
 -- ---- what is answered, and what that says of the cell
+
+-- a cell that is asked and says yes accepts the number
+pub accepted : (c : Cell) (l : ℕ) (n : ℤ) → admission c l n ≡ Ok tt → accepts c n ≡ true
+accepted c l n e = search rules
+
+-- and one that says no does not
+pub refused : (c : Cell) (l : ℕ) (n : ℤ) (f : StoreFault) → admission c l n ≡ Err f → accepts c n ≡ false
+refused c l n f e = search rules
 
 -- a put that answers yes is of a number that the cell accepts
 pub answer_accepted : (c : Cell) (l : ℕ) (n : ℤ) (v : Unit {0}) → put_answer c l n ≡ Ok v → accepts c n ≡ true
@@ -27,6 +35,13 @@ pub fault_location : (c : Cell) (l : ℕ) (n : ℤ) (f : StoreFault) → put_ans
 fault_location c l n f e = search rules
 
 -- ---- the cell that a put is made at
+
+-- what an accepted put leaves, and a refused one
+pub left_accepted : (c : Cell) (n : ℤ) → accepts c n ≡ true → put_left c n ≡ with_content c (Some n)
+left_accepted c n e = search rules
+
+pub left_refused : (c : Cell) (n : ℤ) → accepts c n ≡ false → put_left c n ≡ c
+left_refused c n e = search rules
 
 -- but for its content the cell is as it was
 pub limits_kept : (c : Cell) (n : ℤ) → with_content (put_left c n) None ≡ with_content c None

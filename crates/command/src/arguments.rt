@@ -26,6 +26,7 @@ fn is_help(arg: &str) -> bool
 pub fn request_of(args: Args) -> Result<Request, String>
     ensures { MatchResult result (Asks (map string_bytes (into_iter_items args))) (λ arg. FirstOther (map string_bytes (into_iter_items args)) (string_bytes arg)) }
 {
+    // One loop and no search, since it tells as well whether there is any argument.
     let mut request = Request::Run;
     for arg in args {
         if !is_help(arg.as_str()) {

@@ -36,9 +36,9 @@ impl Command {
         Ok(())
     }
 
-    // Tells what went wrong, if anything did. What is wrong with the input tells its whole line by itself, all else
-    // follows the program's name.
-    fn end<W: fmt::Display + Drop>(
+    /// Tells what went wrong, if anything did, and answers the status. What is wrong with the input tells its whole line by
+    /// itself, all else follows the program's name.
+    pub fn end<W: fmt::Display + Drop>(
         &self,
         rt: &HostRuntime,
         done: Result<(), Trouble<W>>,

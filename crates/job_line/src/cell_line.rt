@@ -26,6 +26,7 @@ fn limit_of(word: &[u8]) -> Result<i32, Wrong>
     signed(word).ok_or(Wrong::NotSigned)
 }
 
+// A function and no `TryFrom`, as all that read a word of a line: what they refuse is said by their contracts.
 fn mark_of(word: &[u8]) -> Result<Mark, Wrong>
     ensures { MatchResult result (WritesMark word.now) (NoMark word.now) }
 {

@@ -56,7 +56,7 @@ impl<T: Drop> From<AllocFailed<T>> for Wrong {
 
 impl Wrong {
     // The same in words, for a message.
-    fn words(self) -> &'static str
+    pub fn words(self) -> &'static str
         ensures { result.now ≡ words_of self }
     {
         match self {

@@ -29,7 +29,7 @@ fn begun(control_places: usize, results_places: usize, limit: u32) -> (u8, usize
     for _ in 0..2 {
         let _ = machine.stacks.control.push(Control::Finish(9));
     }
-    let number = match begin(&program, &mut machine, limit) {
+    let number = match begin(&program, &mut machine.stacks, &*machine.store, limit) {
         Ok(running) => {
             running.give_up();
             0

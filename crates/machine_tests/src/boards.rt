@@ -48,7 +48,7 @@ pub fn told(progress: Progress) -> Told {
 pub fn on(
     running: Running,
     program: &Program<'_>,
-    machine: &mut Machine<'_, Sheet<'_>>,
+    machine: &mut Machine<'_, '_, Sheet<'_>>,
     slice: u32,
 ) -> Told {
     match go_on(running, program, machine, slice) {
@@ -71,7 +71,7 @@ pub fn run(words: &[u32], records: &mut [Record], limit: u32, slice: u32) -> Tol
     let mut results = [Item::Row(0); 16];
     let mut sheet = Sheet::new(records);
     let mut machine = Machine::new(&mut control, &mut results, &mut sheet);
-    match begin(&program, &mut machine, limit) {
+    match begin(&program, &mut machine.stacks, &*machine.store, limit) {
         Ok(running) => on(running, &program, &mut machine, slice),
         Err(refusal) => (refusal.number(), 0, 0, 0),
     }

@@ -19,7 +19,7 @@ fn filled(words: &[u32], item: Control, below_top: Item, top: Item, places: usiz
     let mut records = [plain(); 4];
     let mut sheet = Sheet::new(&mut records);
     let mut machine = Machine::new(&mut control, &mut results[..places], &mut sheet);
-    match begin(&program, &mut machine, 100) {
+    match begin(&program, &mut machine.stacks, &*machine.store, 100) {
         Ok(running) => {
             machine.stacks.control.clear();
             let _ = machine.stacks.control.push(item);

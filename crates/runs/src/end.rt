@@ -1,9 +1,10 @@
 // How a run ends.
 ghost use Rattle.std.specs.Prelude.{◌≡◌};
-ghost use Rattle.runs.specs.declared.end.Stop.TheVariants.{Stuck};
+ghost use Rattle.semantics.specs.Faults.{fault_at};
+ghost use Rattle.runs.specs.declared.end.Stop.TheVariants.{Stuck, Fault as StoppedBy};
 ghost use Rattle.runs.specs.Ends.{stop_fault, stop_number, stop_row, stop_location, end_stop, end_number, end_row, end_location};
 
-use semantics::fault::Fault;
+use semantics::fault::{Cause, Fault};
 use stack::stack::NoRoom;
 
 /// Why a transition is not made.
@@ -25,6 +26,13 @@ impl From<NoRoom> for Stop {
 }
 
 impl Stop {
+    /// The fault of that row, for that cause.
+    pub fn at(row: u32, cause: Cause) -> Stop
+        ensures { result ≡ StoppedBy (fault_at row cause) }
+    {
+        Stop::Fault(Fault { row, cause })
+    }
+
     /// The question's number, 12 to 18.
     pub fn number(self) -> u8
         ensures { result ≡ stop_number self }

@@ -44,10 +44,9 @@ impl Store for Sheet<'_> {
     ghost rests = { λ s. s.records.ghost_name };
 
     fn tell(&self, location: u8) -> Cell {
-        match self.records.get(usize::from(location)) {
-            Some(record) => Cell::from(*record),
-            None => Cell::Unknown,
-        }
+        self.records
+            .get(usize::from(location))
+            .map_or(Cell::Unknown, |record| Cell::from(*record))
     }
 
     // An impl's own clauses replace the trait's: the first four are those, by the trait's own names.

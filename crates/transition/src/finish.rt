@@ -10,7 +10,7 @@ use crate::pair::StackPair;
 use rows::row::{Operator, Relation, Row};
 use runs::end::Stop;
 use semantics::arithmetic::{compare, compute};
-use semantics::fault::{Cause, Fault};
+use semantics::fault::Cause;
 use semantics::item::{Control, Item};
 use store::store::Store;
 
@@ -19,12 +19,7 @@ impl StackPair<'_> {
         ensures { Moved (λ k. arithmetic_of k p operator) self.old self.new result }
     {
         let (y, x) = two::<i32>(self.results.view()).ok_or(Stop::Stuck)?;
-        let n = compute(operator, x, y).map_err(|fault| {
-            Stop::Fault(Fault {
-                row: p,
-                cause: Cause::from(fault),
-            })
-        })?;
+        let n = compute(operator, x, y).map_err(|fault| Stop::at(p, Cause::from(fault)))?;
         self.exchange(&[], 2, &[Item::Number(n)])
     }
 
@@ -89,21 +84,20 @@ fn target(row: Row) -> Option<u8>
     }
 }
 
-impl<S: Store> Machine<'_, S> {
+impl<S: Store> Machine<'_, '_, S> {
     // The number goes to the store, which may refuse it: then both stacks stay as they are.
     fn assign(&mut self, p: u32, location: u8) -> Result<(), Stop>
         requires { 1 ≤ length (contents self.old.stacks.control) }
         ensures { Stepped S.cells S.rests (assignment_of p location (S.cells self.old.store.now) (stacks self.old.stacks)) self.old self.new result }
     {
         let n = number_for(location, self.stacks.results.view()).ok_or(Stop::Stuck)?;
+        // With `map_err` and `?` the proof did not close: the store is known to be as it was only at the error itself.
         if let Err(fault) = self.store.put(location, n) {
-            return Err(Stop::Fault(Fault {
-                row: p,
-                cause: Cause::from(fault),
-            }));
+            return Err(Stop::at(p, Cause::from(fault)));
         }
-        self.stacks.control.exchange(1, &[])?;
-        self.stacks.results.exchange(2, &[])?;
+        // What is taken was found there, and nothing is laid.
+        self.stacks.control.exchange(1, &[]).unwrap();
+        self.stacks.results.exchange(2, &[]).unwrap();
         Ok(())
     }
 

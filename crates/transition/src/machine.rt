@@ -6,22 +6,23 @@ use crate::pair::StackPair;
 use semantics::item::{Control, Item};
 use stack::stack::Stack;
 
-/// The abstract machine of a run: its two stacks, over the store whose cells the rules read and put. All
-/// of it is lent.
+/// The abstract machine of a run: its two stacks, and the loan of the store whose cells the rules read and
+/// put. The loan may end before the stacks' own does: a board then takes the stacks out, and makes a machine
+/// of them again over the next loan.
 // The program stands beside a machine and not in it, since two machines of one promise have one program.
 #[derive(Drop)]
-pub struct Machine<'a, S> {
-    pub stacks: StackPair<'a>,
-    pub store: &'a mut S,
+pub struct Machine<'s, 'm, S> {
+    pub stacks: StackPair<'s>,
+    pub store: &'m mut S,
 }
 
-impl<'a, S> Machine<'a, S> {
+impl<'s, 'm, S> Machine<'s, 'm, S> {
     /// A machine over that store. Its stacks are empty, and their places those of the lent slices.
     pub fn new(
-        control: &'a mut [Control],
-        results: &'a mut [Item],
-        store: &'a mut S,
-    ) -> Machine<'a, S>
+        control: &'s mut [Control],
+        results: &'s mut [Item],
+        store: &'m mut S,
+    ) -> Machine<'s, 'm, S>
         ensures control { (contents result.stacks.control ≡ []) × (places result.stacks.control ≡ length control.old) }
         ensures results { (contents result.stacks.results ≡ []) × (places result.stacks.results ≡ length results.old) }
         ensures store { result.store.now ≡ store.old }

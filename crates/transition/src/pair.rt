@@ -27,7 +27,8 @@ impl StackPair<'_> {
             return Err(Stop::Stuck);
         }
         self.results.exchange(taken, laid)?;
-        self.control.exchange(1, entering)?;
+        // There is room: that was asked.
+        self.control.exchange(1, entering).unwrap();
         Ok(())
     }
 }

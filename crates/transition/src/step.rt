@@ -14,7 +14,7 @@ use semantics::item::Control;
 use store::store::Store;
 use table::program::Program;
 
-impl<S: Store> Machine<'_, S> {
+impl<S: Store> Machine<'_, '_, S> {
     // The transition, if there is one.
     fn attempt(&mut self, program: &Program<'_>) -> Result<(), Stop>
         ensures { Stepped S.cells S.rests (step_of (room self.old.stacks) (row_at (table_of program.now)) (S.cells self.old.store.now) (stacks self.old.stacks)) self.old self.new result }

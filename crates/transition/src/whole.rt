@@ -4,7 +4,7 @@ ghost use Rattle.transition.specs.Exchanges.{Moved, read_of, wait_of, whole_of};
 use crate::pair::StackPair;
 use rows::row::Row;
 use runs::end::Stop;
-use semantics::fault::{Cause, Fault};
+use semantics::fault::Cause;
 use semantics::item::{Control, Item};
 use store::store::Store;
 
@@ -16,12 +16,10 @@ impl StackPair<'_> {
         if !self.results.fits(0, 1) {
             return Err(Stop::Stuck);
         }
-        let n = store.tell(location).read(location).map_err(|fault| {
-            Stop::Fault(Fault {
-                row: p,
-                cause: Cause::from(fault),
-            })
-        })?;
+        let n = store
+            .tell(location)
+            .read(location)
+            .map_err(|fault| Stop::at(p, Cause::from(fault)))?;
         self.exchange(&[], 0, &[Item::Number(n)])
     }
 

@@ -1,5 +1,5 @@
 -- Records that are set one after another stand for the cells of a case.
-use Rattle.std.proofs.Common.{◌≡◌, ℕ, suc, ◌<◌, ◌≤◌, cond, eqb, ltb, List, [], ◌∷◌, ◌++◌, append_assoc, refl, length, get_or, set, replicate, ℤ, pos, negsuc, sym, ap, ◌∙◌, inl, inr, arith, get_or-set_same, get_or-set_other, w32, SFits, le-leb, Some, None}
+use Rattle.std.proofs.Common.{◌≡◌, ℕ, suc, ◌<◌, ◌≤◌, cond, eqb, ltb, List, [], ◌∷◌, ◌++◌, append_assoc, refl, length, get_or, set, replicate, ℤ, pos, negsuc, sym, ap, ◌∙◌, inl, inr, arith, get_or-set_same, w32, SFits, le-leb, Some, None}
 use lib.ListN.{get_or-replicate}
 use Rattle.std.specs.List.{push}
 use Rattle.std.proofs.lemmas.Bool.Decides.{eqb_tells, leb_tells}
@@ -9,6 +9,7 @@ use Rattle.cells.proofs.Laws.{located}
 use Rattle.semantics.specs.Worked.{cells_with}
 use Rattle.sheet.specs.declared.record.Record.{Record}
 use Rattle.sheet.specs.Sheets.{sound, cell_of, blank, sheet_cells}
+use Rattle.sheet.proofs.SheetLemmas.{set_spares}
 use Rattle.worked.specs.declared.start.Holding.{Holding}
 use Rattle.worked.specs.Setups.{held_at, held}
 
@@ -19,10 +20,6 @@ plain r e k = elim (leb_tells (suc k) 256) [
   | inr p ↦ rw p.0
 ]
 
--- a record that is set is no other location's
-spared : (rs : List Record) (l : ℕ) (r : Record) (k : ℕ) → (k ≡ l → ⊥) → sheet_cells (set rs l r) k ≡ sheet_cells rs k
-spared rs l r k ne = rw (get_or-set_other rs l k r blank ne)
-
 -- one record more
 set_one : (rs : List Record) (l : ℕ) (r : Record) → l < 256 → length rs ≡ 256 → (k : ℕ) → sheet_cells (set rs l r) k ≡ cond (eqb k l) (cell_of r) (sheet_cells rs k)
 set_one rs l r small full k = elim (eqb_tells k l) [
@@ -30,7 +27,7 @@ set_one rs l r small full k = elim (eqb_tells k l) [
       let here : sheet_cells (set rs l r) l ≡ cell_of r =
       located (λ i. cell_of (get_or (set rs l r) i blank)) l small ∙ ap cell_of (get_or-set_same rs l r blank (omega arith)) in
       ap (sheet_cells (set rs l r)) p.1 ∙ here ∙ sym (ap (λ b. cond b (cell_of r) (sheet_cells rs k)) p.0)
-  | inr p ↦ spared rs l r k p.1 ∙ sym (ap (λ b. cond b (cell_of r) (sheet_cells rs k)) p.0)
+  | inr p ↦ set_spares rs l r k p.1 ∙ sym (ap (λ b. cond b (cell_of r) (sheet_cells rs k)) p.0)
 ]
 
 -- one holding more, before those that are done

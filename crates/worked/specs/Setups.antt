@@ -22,13 +22,6 @@ cases = take 12 twelve_runs
 abbrev pub case_of : ℕ → Option Case
 case_of = numbered 1 cases
 
-abbrev pub table_of_case : Option Case → List ℕ
-table_of_case None = []
-table_of_case (Some c) = c.table
-
-abbrev pub table_at : ℕ → List ℕ
-table_at n = table_of_case (case_of n)
-
 abbrev pub held_at : Holding → ℕ × Cell
 held_at h = (h.location, Known (widest (Some h.number)))
 

@@ -19,13 +19,13 @@ use transition::machine::Machine;
 // run is not over after the slice.
 fn whole_run<S: Store>(
     program: &Program<'_>,
-    machine: &mut Machine<'_, S>,
+    machine: &mut Machine<'_, '_, S>,
     limit: u32,
 ) -> Option<Ended>
     ensures tells { Tells (table_of program.now) (places machine.old.stacks.control) (places machine.old.stacks.results) limit (S.cells machine.old.store.now) (S.cells machine.new.store.now) result }
     ensures keeps { Keeps S.rests machine.old machine.new }
 {
-    let running = begin(program, machine, limit).ok()?;
+    let running = begin(program, &mut machine.stacks, &*machine.store, limit).ok()?;
     match go_on(running, program, machine, LARGEST_SLICE) {
         Ok(Progress::Ended(ended)) => Some(ended),
         Ok(Progress::Running(running)) => {

@@ -1,4 +1,5 @@
 // The tables of the worked cases.
+
 // A table's words, written row by row.
 macro_rules! rule_table {
     ($([$kind:expr, $a:expr, $b:expr, $c:expr]),+ $(,)?) => {

@@ -2,15 +2,14 @@
 ghost use Rattle.std.specs.Prelude.{◌≡◌, Some, None, MatchResult};
 ghost use Rattle.stack.specs.Contents.{places};
 ghost use Rattle.table.specs.Places.{table_of};
-ghost use Rattle.transition.specs.Exchanges.{room};
-ghost use Rattle.transition.specs.Steps.{configuration};
+ghost use Rattle.transition.specs.Exchanges.{room, stacks as held};
+ghost use Rattle.transition.specs.Steps.{over};
 ghost use Rattle.machine.specs.Begins.{Begins, first_no};
 
 use super::{BeginRefusal, Running};
 use semantics::item::Control;
 use store::store::Store;
 use table::program::Program;
-use transition::machine::Machine;
 use transition::pair::StackPair;
 
 /// The largest limit on transitions.
@@ -32,19 +31,18 @@ fn ask(program: &Program<'_>, stacks: &StackPair<'_>, limit: u32) -> Result<(), 
     }
 }
 
-/// Begins a run of the program over the cells of the machine's store: both stacks are emptied, and the
-/// control stack gets the last row, whole. After a no nothing is changed.
+/// Begins a run of the program over the store's cells: both stacks are emptied, and the control stack
+/// gets the last row, whole. After a no nothing is changed.
 pub fn begin<S: Store>(
     program: &Program<'_>,
-    machine: &mut Machine<'_, S>,
+    stacks: &mut StackPair<'_>,
+    store: &S,
     limit: u32,
 ) -> Result<Running, BeginRefusal>
-    ensures begins { Begins (table_of program.now) (places machine.old.stacks.control) (places machine.old.stacks.results) limit (configuration S.cells machine.old) result (configuration S.cells machine.new) }
-    ensures places { room machine.new.stacks ≡ room machine.old.stacks }
-    ensures store { machine.new.store ≡ machine.old.store }
+    ensures begins { Begins (table_of program.now) (places stacks.old.control) (places stacks.old.results) limit (over (S.cells store.now) (held stacks.old)) result (over (S.cells store.now) (held stacks.new)) }
+    ensures places { room stacks.new ≡ room stacks.old }
 {
-    ask(program, &machine.stacks, limit)?;
-    let stacks = &mut machine.stacks;
+    ask(program, stacks, limit)?;
     stacks.control.clear();
     stacks.results.clear();
     // There is room: a program needs one place at least, and that was asked.

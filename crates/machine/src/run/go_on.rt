@@ -44,7 +44,7 @@ fn look(stacks: &StackPair<'_>, made: u32, limit: u32) -> Option<End>
 fn serve<S: Store>(
     running: Running,
     program: &Program<'_>,
-    machine: &mut Machine<'_, S>,
+    machine: &mut Machine<'_, '_, S>,
     slice: u32,
 ) -> Progress
     ensures serves { Serves (row_at (table_of program.now)) (places machine.old.stacks.control) (places machine.old.stacks.results) running.limit slice running.count (configuration S.cells machine.old) (board_of result (configuration S.cells machine.new)) }
@@ -52,6 +52,7 @@ fn serve<S: Store>(
     ensures keeps { Keeps S.rests machine.old machine.new }
 {
     let Running { count, limit } = running;
+    // Counted here and not by the range: it begins anywhere, and the sum with the slice need not fit.
     let mut made = count;
     for _ in 0..slice {
         if let Some(end) = look(&machine.stacks, made, limit) {
@@ -78,7 +79,7 @@ fn serve<S: Store>(
 pub fn go_on<S: Store>(
     running: Running,
     program: &Program<'_>,
-    machine: &mut Machine<'_, S>,
+    machine: &mut Machine<'_, '_, S>,
     slice: u32,
 ) -> Result<Progress, TurnedDown>
     ensures goes { GoesOn (row_at (table_of program.now)) (places machine.old.stacks.control) (places machine.old.stacks.results) running.limit slice running.count (configuration S.cells machine.old) (board_after result (configuration S.cells machine.new)) }

@@ -12,7 +12,7 @@ returns-in-Ok-Ended-clause-tells g c =
     let after = configuration g.S.Store.cells c.go_on.new.machine in
     let is : c.begin.result ≡ Ok c.in_ok-running.running = search rules in
     let run =
-    served (table_of c.args.program.now) (room c.args.machine.now.stacks) (room c.begin.new.machine.stacks) c.begin.ensures.places c.args.limit before after
+    served (table_of c.args.program.now) (room c.args.machine.now.stacks) (room c.begin.new.stacks) c.begin.ensures.places c.args.limit before after
     (Ended c.in-Ok-Ended.ended) c.in_ok-running.running is c.begin.ensures.begins c.in-Ok-Ended.ensures.goes (cc) in
     (after, refl, run)
 
@@ -22,6 +22,6 @@ returns-in-Ok-Running-clause-tells g c =
     let after = configuration g.S.Store.cells c.go_on.new.machine in
     let is : c.begin.result ≡ Ok c.in_ok-running.running = search rules in
     let run =
-    served (table_of c.args.program.now) (room c.args.machine.now.stacks) (room c.begin.new.machine.stacks) c.begin.ensures.places c.args.limit before after
+    served (table_of c.args.program.now) (room c.args.machine.now.stacks) (room c.begin.new.stacks) c.begin.ensures.places c.args.limit before after
     (Running c.in-Ok-Running.running) c.in_ok-running.running is c.begin.ensures.begins c.in-Ok-Running.ensures.goes (cc) in
     λ _. (c.in-Ok-Running.running.count, (after, refl, run))

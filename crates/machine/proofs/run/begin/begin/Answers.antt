@@ -8,23 +8,23 @@ use Rattle.machine.proofs.run.begin.begin.Goals as goal
 
 pub returns-in_err-ask-clause-begins : goal.returns-in_err-ask-clause-begins
 returns-in_err-ask-clause-begins g c =
-    let stacks = c.args.machine.now.stacks in
+    let stacks = c.args.stacks.now in
     let told : c.from_residual.result ≡ Err c.in_err-ask.field-0.0 = search rules in
-    turned_away (table_of c.args.program.now) _ _ _ (contents stacks.control) (contents stacks.control) (contents stacks.results) (contents stacks.results) (g.S.Store.cells c.args.machine.now.store.now) told c.in_err-ask.ensures
+    turned_away (table_of c.args.program.now) _ _ _ (contents stacks.control) (contents stacks.control) (contents stacks.results) (contents stacks.results) (g.S.Store.cells c.args.store.now) told c.in_err-ask.ensures
 
 pub unwrap-requires : goal.unwrap-requires
 unwrap-requires g c =
-    let stacks = c.args.machine.now.stacks in
+    let stacks = c.args.stacks.now in
     let table = table_of c.args.program.now in
     let one : 1 ≤ places stacks.control = takes_one table (held c.args.program.now) _ _ c.args.limit (sym c.in_ok-ask.ensures) in
     takes _ _ _ one c.clear.ensures.contents c.clear.ensures.places c.push.result c.push.ensures.answers
 
 pub returns-clause-begins : goal.returns-clause-begins
 returns-clause-begins g c =
-    let stacks = c.args.machine.now.stacks in
+    let stacks = c.args.stacks.now in
     let table = table_of c.args.program.now in
     let one : 1 ≤ places stacks.control = takes_one table (held c.args.program.now) _ _ c.args.limit (sym c.in_ok-ask.ensures) in
     let top = ap (λ p. Whole p) (last table c.last_row.result c.last_row.ensures) in
-    starts table _ _ c.args.limit (contents stacks.control) _ (contents stacks.results) _ (g.S.Store.cells c.args.machine.now.store.now) (sym c.in_ok-ask.ensures)
+    starts table _ _ c.args.limit (contents stacks.control) _ (contents stacks.results) _ (g.S.Store.cells c.args.store.now) (sym c.in_ok-ask.ensures)
     (alone _ _ _ one c.clear.ensures.contents c.clear.ensures.places _ (Whole c.last_row.result) c.push.ensures.contents ∙ ap (λ i. i ∷ []) top)
     c.clear-2.ensures.contents
