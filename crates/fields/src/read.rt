@@ -21,6 +21,7 @@ pub enum ReadError {
     Memory,
 }
 
+// By hand, and one for each: contracts name the case that `?` makes, and the two errors have nothing in common.
 impl From<alloc::AllocError> for ReadError {
     ghost from_gives = { λ _ r. r ≡ Memory };
 

@@ -31,3 +31,6 @@ text_writes (Make.Cover a b) h = (
   (decimal a, decimal b, refl, byte_decimal a h.0, byte_decimal b h.1, sym (number_of-decimal a (omega arith)), sym (number_of-decimal b (omega arith))),
 )
 text_writes (Make.Neighbours n) h = (decimal n, refl, byte_decimal n h, sym (number_of-decimal n (omega arith)))
+
+abbrev pub MakesPrintAsWritten : Type 0
+MakesPrintAsWritten = (m : Make) → Located m → Writes (text_of m) m

@@ -3,6 +3,7 @@
 
 pub mod board_line;
 pub mod cell_line;
+pub mod claims;
 pub mod line;
 pub mod make;
 mod numbers;

@@ -38,6 +38,7 @@ pub enum Wrong {
     Memory,
 }
 
+// By hand, and one for each: contracts name the case that `?` makes, and the two errors have nothing in common.
 impl From<AllocError> for Wrong {
     ghost from_gives = { λ _ r. r ≡ Memory };
 

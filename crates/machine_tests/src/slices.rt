@@ -44,7 +44,9 @@ fn empty_stacks_have_finished(rt: HostRuntime) -> Result<(), Fail> {
     let mut records = [Record::blank(); 0];
     let mut sheet = Sheet::new(&mut records);
     let mut machine = Machine::new(&mut control, &mut results, &mut sheet);
-    let running = begin(&program, &mut machine.stacks, &*machine.store, 5).map_err(|_| Fail::new("refused"))?;
+    let running = begin(&program, &mut machine.stacks, &*machine.store, 5).map_err(|_| Fail::new(
+        "refused",
+    ))?;
     machine.stacks.control.clear();
     assert_eq!(rt; on(running, &program, &mut machine, 0), (0, 0, 0, 0));
     Ok(())

@@ -4,7 +4,7 @@ ghost use Rattle.stack.specs.Contents.{contents};
 ghost use Rattle.transition.specs.Exchanges.{Moved, stacks, room, arithmetic_of, comparison_of, choice_of, loop_of, finish_of};
 ghost use Rattle.transition.specs.Steps.{Stepped, assignment_of, target_of, finish_all_of};
 
-use crate::found::{decided, number_for, one, two};
+use crate::found::{decided, number_for, topmost, topmost_two};
 use crate::machine::Machine;
 use crate::pair::StackPair;
 use rows::row::{Operator, Relation, Row};
@@ -18,7 +18,7 @@ impl StackPair<'_> {
     fn arithmetic(&mut self, p: u32, operator: Operator) -> Result<(), Stop>
         ensures { Moved (λ k. arithmetic_of k p operator) self.old self.new result }
     {
-        let (y, x) = two::<i32>(self.results.view()).ok_or(Stop::Stuck)?;
+        let (y, x) = topmost_two::<i32>(self.results.view()).ok_or(Stop::Stuck)?;
         let n = compute(operator, x, y).map_err(|fault| Stop::at(p, Cause::from(fault)))?;
         self.exchange(&[], 2, &[Item::Number(n)])
     }
@@ -26,7 +26,7 @@ impl StackPair<'_> {
     fn comparison(&mut self, relation: Relation) -> Result<(), Stop>
         ensures { Moved (λ k. comparison_of k relation) self.old self.new result }
     {
-        let (y, x) = two::<i32>(self.results.view()).ok_or(Stop::Stuck)?;
+        let (y, x) = topmost_two::<i32>(self.results.view()).ok_or(Stop::Stuck)?;
         self.exchange(&[], 2, &[Item::Truth(compare(relation, x, y))])
     }
 
@@ -60,11 +60,11 @@ impl StackPair<'_> {
             Row::Arithmetic(operator, _, _) => self.arithmetic(p, operator),
             Row::Comparison(relation, _, _) => self.comparison(relation),
             Row::Not(_) => {
-                let t = one::<bool>(self.results.view()).ok_or(Stop::Stuck)?;
+                let t = topmost::<bool>(self.results.view()).ok_or(Stop::Stuck)?;
                 self.exchange(&[], 1, &[Item::Truth(!t)])
             }
             Row::And(_, _) => {
-                let (y, x) = two::<bool>(self.results.view()).ok_or(Stop::Stuck)?;
+                let (y, x) = topmost_two::<bool>(self.results.view()).ok_or(Stop::Stuck)?;
                 self.exchange(&[], 2, &[Item::Truth(x & y)])
             }
             Row::Choice(_, x, y) => self.choice(x, y),

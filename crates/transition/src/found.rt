@@ -37,14 +37,14 @@ impl Operand for bool {
 }
 
 /// The topmost operand.
-pub fn one<V: Operand>(items: &[Item]) -> Option<V>
+pub fn topmost<V: Operand>(items: &[Item]) -> Option<V>
     ensures { result ≡ topmost V.taken items.now }
 {
     V::of_item(*items.first()?)
 }
 
 /// The right operand, then the left.
-pub fn two<V: Operand>(items: &[Item]) -> Option<(V, V)>
+pub fn topmost_two<V: Operand>(items: &[Item]) -> Option<(V, V)>
     ensures { result ≡ topmost_two V.taken items.now }
 {
     match items {
