@@ -20,6 +20,7 @@ use table::program::Program;
 use transition::machine::Machine;
 
 /// How a board stands when its slices are used up.
+// No Result<Option<Ended>, BeginRefusal>: its None would have to be read as "still running".
 #[derive(Clone, Copy)]
 pub enum Standing {
     Refused(BeginRefusal),
@@ -27,9 +28,9 @@ pub enum Standing {
     Ended(Ended),
 }
 
-impl Standing {
+impl From<Fate> for Standing {
     // A run that has not ended is given up here: its count stands in its last turn.
-    fn of(fate: Fate) -> Standing {
+    fn from(fate: Fate) -> Standing {
         match fate {
             Err(refusal) => Standing::Refused(refusal),
             Ok(Progress::Running(running)) => {
@@ -39,7 +40,9 @@ impl Standing {
             Ok(Progress::Ended(ended)) => Standing::Ended(ended),
         }
     }
+}
 
+impl Standing {
     /// The end, where it has ended.
     pub fn ended(self) -> Option<Ended> {
         match self {
@@ -66,11 +69,17 @@ fn cells_of<S: Store>(store: &S) -> [Cell; 256] {
     cells
 }
 
+// How a board stands, and its cells.
 type Told = (Standing, [Cell; 256]);
+
+fn told<S: Store>(fate: Fate, store: &S) -> Told {
+    (Standing::from(fate), cells_of(store))
+}
 
 // Everything that a board is built of.
 #[derive(Drop)]
 struct Bench {
+    // For the report alone: the memory has what the store needs of it.
     make: Make,
     memory: CellMemory,
     scratch: Scratch,
@@ -101,159 +110,148 @@ impl Bench {
     }
 }
 
-// The body, at the store of the make over that memory: a function has no parameter for what holds of any
-// make, so each make has a copy of its own.
+// The body, at the store over that memory, with a copy of its own for each make. Tried in its place: a trait
+// with a method that is generic over stores, where the inner of two such calls loses what is known of the outer
+// one's store; and an enum of the four stores that is a store itself, where the borrow checker does not cover
+// an enum with a variant that holds a struct with a `&mut`.
 macro_rules! at_store {
-    ($make:expr, $memory:expr, $store:ident => $body:expr) => {
-        match $make {
-            Make::Sheet => {
-                let mut $store = Sheet::new(&mut $memory.records);
+    ($memory:expr, $store:ident => $body:expr) => {
+        match $memory {
+            CellMemory::Sheet(records) => {
+                let mut $store = Sheet::new(records);
                 $body
             }
-            Make::Cover(first, last) => {
-                let mut $store = Cover::new(Sheet::new(&mut $memory.records), first, last);
+            CellMemory::Cover(memory) => {
+                let sheet = Sheet::new(&mut memory.records);
+                let mut $store = Cover::new(sheet, memory.first, memory.last);
                 $body
             }
-            Make::Neighbours(split) => {
-                let left = Sheet::new(&mut $memory.records);
-                let right = Sheet::new(&mut $memory.next);
-                let mut $store = Neighbours::new(left, right, split);
+            CellMemory::Neighbours(memory) => {
+                let left = Sheet::new(&mut memory.left);
+                let right = Sheet::new(&mut memory.right);
+                let mut $store = Neighbours::new(left, right, memory.split);
                 $body
             }
-            Make::Pairs => {
-                let mut $store = PairList::new($memory.words.as_mut_slice());
+            CellMemory::Pairs(words) => {
+                let mut $store = PairList::new(words.as_mut_slice());
                 $body
             }
         }
     };
 }
 
-// One board by itself.
-fn run_one<S: Store>(
-    program: &Program<'_>,
+// What the boards of a job have in common.
+#[derive(Clone, Copy)]
+struct Common<'a> {
+    program: &'a Program<'a>,
     limit: u32,
-    store: &mut S,
-    scratch: &mut Scratch,
-) -> Told
-    ensures { S.rests store.new ≡ S.rests store.old }
-{
-    let mut machine = Machine::new(
-        scratch.control.as_mut_slice(),
-        scratch.results.as_mut_slice(),
-        &mut *store,
-    );
-    let fate = follow(program, &mut machine, limit, scratch.turns.as_mut_slice());
-    // Taken apart by name, the machine gives the store back as it was lent.
-    let Machine {
-        stacks: _,
-        store: lent,
-    } = machine;
-    let _ = lent;
-    (Standing::of(fate), cells_of(&*store))
 }
 
-// Two boards, of whatever makes.
-fn run_two<A: Store, B: Store>(
-    program: &Program<'_>,
-    limit: u32,
-    store1: &mut A,
-    scratch1: &mut Scratch,
-    store2: &mut B,
-    scratch2: &mut Scratch,
-) -> (Told, Told)
-    ensures { (A.Store.rests store1.new ≡ A.Store.rests store1.old) × (B.Store.rests store2.new ≡ B.Store.rests store2.old) }
-{
-    let mut machine1 = Machine::new(
-        scratch1.control.as_mut_slice(),
-        scratch1.results.as_mut_slice(),
-        &mut *store1,
-    );
-    let mut machine2 = Machine::new(
-        scratch2.control.as_mut_slice(),
-        scratch2.results.as_mut_slice(),
-        &mut *store2,
-    );
-    let (fate1, fate2) = two_boards(
-        program,
-        limit,
-        &mut machine1,
-        scratch1.turns.as_mut_slice(),
-        &mut machine2,
-        scratch2.turns.as_mut_slice(),
-    );
-    let Machine {
-        stacks: _,
-        store: lent1,
-    } = machine1;
-    let Machine {
-        stacks: _,
-        store: lent2,
-    } = machine2;
-    let (_, _) = (lent1, lent2);
-    (
-        (Standing::of(fate1), cells_of(&*store1)),
-        (Standing::of(fate2), cells_of(&*store2)),
-    )
-}
+impl Common<'_> {
+    // One board by itself.
+    fn run_one<S: Store>(self, store: &mut S, scratch: &mut Scratch) -> Told
+        ensures { S.rests store.new ≡ S.rests store.old }
+    {
+        let (mut machine, turns) = scratch.machine(&mut *store);
+        let fate = follow(self.program, &mut machine, self.limit, turns);
+        // Taken apart by name, the machine gives the store back as it was lent.
+        let Machine {
+            stacks: _,
+            store: lent,
+        } = machine;
+        let _ = lent;
+        told(fate, &*store)
+    }
 
-// A board, over the store of its make.
-fn run_board(program: &Program<'_>, limit: u32, bench: &mut Bench) -> Told {
-    let Bench {
-        make,
-        memory,
-        scratch,
-    } = bench;
-    at_store!(*make, memory, store => run_one(program, limit, &mut store, scratch))
-}
+    // Two boards, of whatever makes.
+    fn run_two<A: Store, B: Store>(
+        self,
+        store1: &mut A,
+        scratch1: &mut Scratch,
+        store2: &mut B,
+        scratch2: &mut Scratch,
+    ) -> (Told, Told)
+        ensures { (A.Store.rests store1.new ≡ A.Store.rests store1.old) × (B.Store.rests store2.new ≡ B.Store.rests store2.old) }
+    {
+        let (mut machine1, turns1) = scratch1.machine(&mut *store1);
+        let (mut machine2, turns2) = scratch2.machine(&mut *store2);
+        let (fate1, fate2) = two_boards(
+            self.program,
+            self.limit,
+            &mut machine1,
+            turns1,
+            &mut machine2,
+            turns2,
+        );
+        let Machine {
+            stacks: _,
+            store: lent1,
+        } = machine1;
+        let Machine {
+            stacks: _,
+            store: lent2,
+        } = machine2;
+        let (_, _) = (lent1, lent2);
+        (told(fate1, &*store1), told(fate2, &*store2))
+    }
 
-// A second board, over the store of its make, beside the first one's store.
-fn run_beside<A: Store>(
-    program: &Program<'_>,
-    limit: u32,
-    store1: &mut A,
-    scratch1: &mut Scratch,
-    second: &mut Bench,
-) -> (Told, Told)
-    ensures { A.rests store1.new ≡ A.rests store1.old }
-{
-    let Bench {
-        make,
-        memory,
-        scratch,
-    } = second;
-    at_store!(*make, memory, store2 => run_two(program, limit, store1, scratch1, &mut store2, scratch))
-}
+    // A board, over the store of its make.
+    fn run_board(self, bench: &mut Bench) -> Told {
+        let Bench {
+            memory,
+            scratch,
+            ..
+        } = bench;
+        at_store!(memory, store => self.run_one(&mut store, scratch))
+    }
 
-// Two boards, the first over the store of its make.
-fn run_boards(
-    program: &Program<'_>,
-    limit: u32,
-    first: &mut Bench,
-    second: &mut Bench,
-) -> (Told, Told) {
-    let Bench {
-        make,
-        memory,
-        scratch,
-    } = first;
-    at_store!(*make, memory, store1 => run_beside(program, limit, &mut store1, scratch, second))
+    // A second board, over the store of its make, beside the first one's store.
+    fn run_beside<A: Store>(
+        self,
+        store1: &mut A,
+        scratch1: &mut Scratch,
+        second: &mut Bench,
+    ) -> (Told, Told)
+        ensures { A.rests store1.new ≡ A.rests store1.old }
+    {
+        let Bench {
+            memory,
+            scratch,
+            ..
+        } = second;
+        at_store!(memory, store2 => self.run_two(store1, scratch1, &mut store2, scratch))
+    }
+
+    // Two boards, the first over the store of its make.
+    fn run_boards(self, first: &mut Bench, second: &mut Bench) -> (Told, Told) {
+        let Bench {
+            memory,
+            scratch,
+            ..
+        } = first;
+        at_store!(memory, store1 => self.run_beside(&mut store1, scratch, second))
+    }
 }
 
 /// What each board of the job did, in their order: they are run two by two, and an odd one by itself.
 pub fn run_all(heap: Global, program: &Program<'_>, job: &Job) -> Result<Vec<Outcome>, AllocError> {
+    let common = Common {
+        program,
+        limit: job.limit,
+    };
     let mut outcomes = Vec::new(heap);
     for boards in job.boards.as_slice().chunks(2) {
         match boards {
             [first, second] => {
                 let mut bench1 = Bench::new(heap, first, &job.cells)?;
                 let mut bench2 = Bench::new(heap, second, &job.cells)?;
-                let (told1, told2) = run_boards(program, job.limit, &mut bench1, &mut bench2);
+                let (told1, told2) = common.run_boards(&mut bench1, &mut bench2);
                 outcomes.push(bench1.outcome(told1))?;
                 outcomes.push(bench2.outcome(told2))?;
             }
             [odd] => {
                 let mut bench = Bench::new(heap, odd, &job.cells)?;
-                let told = run_board(program, job.limit, &mut bench);
+                let told = common.run_board(&mut bench);
                 outcomes.push(bench.outcome(told))?;
             }
             _ => {}

@@ -1,4 +1,7 @@
 // Whether the boards have come to one result.
+ghost use Rattle.std.specs.Prelude.{Some};
+ghost use Rattle.boards.specs.Verdicts.{text_of};
+
 use crate::bench::Outcome;
 use std::fmt;
 
@@ -14,6 +17,8 @@ pub enum Verdict {
 }
 
 impl fmt::Display for Verdict {
+    ghost output = { λ v. Some (text_of v) };
+
     fn fmt<W: fmt::Write>(&self, f: &mut fmt::Formatter<W>) -> fmt::Result {
         match self {
             Verdict::Agree => write!(f, "agree"),
