@@ -5,7 +5,6 @@ pub mod bad_line;
 mod draft;
 mod finish;
 pub mod job;
-mod lines;
 pub mod read;
 
 pub use job_line::board_line::BoardLine;

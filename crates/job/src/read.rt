@@ -6,7 +6,6 @@ use crate::bad_line::BadLine;
 use crate::draft::Draft;
 use crate::finish::finish;
 use crate::job::Job;
-use crate::lines::Lines;
 use std::alloc::Global;
 
 /// The job that the text says, or the first line that is wrong.
@@ -19,7 +18,8 @@ pub fn read(heap: Global, text: &[u8]) -> Result<Job, BadLine>
 {
     let mut draft = Draft::new(heap);
     let mut number = 0;
-    for (before, line) in Lines::of(text).enumerate() {
+    for (before, piece) in text.split_inclusive(|b| *b == b'\n').enumerate() {
+        let line = piece.strip_suffix(b"\n").unwrap_or(piece);
         number = before + 1;
         draft
             .read_line(heap, number, line)

@@ -1,8 +1,12 @@
-use Rattle.std.proofs.Common.{◌+◌, arith}
+use Rattle.std.proofs.Common.{subst, ◌+◌, ◌≡◌, arith, rules}
 use Rattle.std.proofs.lemmas.Grind.{common_steps}
 use Rattle.std.proofs.lemmas.Result.{MatchResult-weaker}
-use Rattle.job.specs.Drafts.{State, state_of, empty, TakesIn}
-use Rattle.job.specs.Reading.{Leads}
+use Rattle.std.specs.Iterator.Adapters.{enumerate_source}
+use Rattle.std.specs.Slice.Iter.{split_inclusive_rest}
+use Rattle.job.proofs.Pieces.{first_of}
+use Rattle.job_line.specs.declared.wrong.Wrong.{Wrong}
+use Rattle.job.specs.Drafts.{State, state_of, empty, TakesIn, RefusesLineOf}
+use Rattle.job.specs.Reading.{Leads, Breaks, Stops}
 use Rattle.job.specs.Reading.Leads.{ended, goes_on}
 use Rattle.job.specs.Reading.Breaks.{here, later}
 use Rattle.job.specs.Reading.Stops.{breaks, unfinished}
@@ -10,15 +14,27 @@ use Rattle.job.proofs.Soundness.{stays_sound, empty_sound, sound_job}
 use Rattle.job.proofs.read.read.Goals as goal
 
 pub returns-in_err-map_err-clause-told : goal.returns-in_err-map_err-clause-told
-returns-in_err-map_err-clause-told c = grind (arith, common_steps, breaks, here)
+returns-in_err-map_err-clause-told c =
+    let step = c.in-Some.ensures.steps.0 in
+    let line = first_of _ _ step c.strip_suffix.ensures.cases c.unwrap_or-line.ensures (λ a r q k. search rules) in
+    let number = c.loop-before.number + 1 in
+    let breaks_here : (e : Wrong) → RefusesLineOf number c.unwrap_or-line.result.now (state_of c.loop-before.draft) e →
+    Stops c.args.text.now (record { line = number; wrong = e }) =
+    λ e refuses. breaks (c.loop-before.invariant.breaks _ (here _ _ step.2 line refuses)) in
+    grind (arith, common_steps, breaks_here)
 
 pub loop-before-preserved : goal.loop-before-preserved
 loop-before-preserved c =
-    let takes : TakesIn (c.in-Some.before + 1) c.in-Some.line.now (state_of c.loop-before.draft) (state_of c.read_line.new.self) = grind (arith, common_steps) in
+    let step = c.in-Some.ensures.steps.0 in
+    let line = first_of _ _ step c.strip_suffix.ensures.cases c.unwrap_or-line.ensures (λ a r q k. search rules) in
+    let takes : TakesIn (c.loop-before.number + 1) c.unwrap_or-line.result.now (state_of c.loop-before.draft) (state_of c.read_line.new.self) = grind (arith, common_steps) in
+    let same : c.in-Some.before ≡ c.loop-before.number = grind (arith, common_steps) in
+    let rest = split_inclusive_rest (enumerate_source c.next.new.self) in
+    let state = state_of c.read_line.new.self in
     record {
       counted = grind (arith, common_steps);
-      leads = grind (arith, common_steps, goes_on);
-      breaks = grind (arith, common_steps, later);
+      leads = λ m t h. c.loop-before.invariant.leads m t (goes_on _ _ _ step.2 line takes (subst (λ n. Leads (n + 1) rest state m t) same h));
+      breaks = λ e h. c.loop-before.invariant.breaks e (later _ _ _ step.2 line takes (subst (λ n. Breaks (n + 1) rest state e) same h));
     }
 
 -- the text has led to what the draft says
