@@ -154,7 +154,7 @@ impl Common<'_> {
     {
         let (mut machine, turns) = scratch.machine(&mut *store);
         let fate = follow(self.program, &mut machine, self.limit, turns);
-        // Taken apart by name, the machine gives the store back as it was lent.
+        // Taken apart by name, the machine gives the loan back, and with it what the run left in the store.
         let Machine {
             stacks: _,
             store: lent,
@@ -163,7 +163,7 @@ impl Common<'_> {
         told(fate, &*store)
     }
 
-    // Two boards, of whatever makes.
+    // Two boards, of whatever makes. The steps of one, twice: `two_boards` has to have both machines at once.
     fn run_two<A: Store, B: Store>(
         self,
         store1: &mut A,

@@ -8,6 +8,7 @@ fn turn_line(rt: &HostRuntime, turn: &Turn) -> io::Result<()> {
     let slice = turn.slice;
     match turn.seen {
         Seen::Unused => Ok(()),
+        // Every slice that is turned down is so by question 11.
         Seen::TurnedDown => println!(rt; "slice {slice}: refused 11"),
         Seen::Running(count) => println!(rt; "slice {slice}: running count {count}"),
         Seen::Ended(ended) => {

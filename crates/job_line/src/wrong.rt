@@ -56,7 +56,7 @@ impl<T: Drop> From<AllocFailed<T>> for Wrong {
 }
 
 impl Wrong {
-    // The same in words, for a message.
+    /// What is wrong, in words that need no memory.
     pub fn words(self) -> &'static str
         ensures { result.now ≡ words_of self }
     {
