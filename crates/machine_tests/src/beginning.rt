@@ -4,8 +4,9 @@ use machine::run::begin::begin;
 use semantics::item::{Control, Item};
 use sheet::record::Record;
 use sheet::sheet::Sheet;
+use stack::stack::Stack;
 use table::program::Program;
-use transition::machine::Machine;
+use transition::pair::StackPair;
 
 // The number that begin refuses with, or 0; and how many items are then left on the control stack,
 // on which two were lying.
@@ -20,23 +21,21 @@ fn begun(control_places: usize, results_places: usize, limit: u32) -> (u8, usize
         return (255, 0);
     }
     let mut records = [Record::blank(); 1];
-    let mut sheet = Sheet::new(&mut records);
-    let mut machine = Machine::new(
-        &mut control[..control_places],
-        &mut results[..results_places],
-        &mut sheet,
-    );
-    for _ in 0..2 {
-        let _ = machine.stacks.control.push(Control::Finish(9));
-    }
-    let number = match begin(&program, &mut machine.stacks, &*machine.store, limit) {
+    let sheet = Sheet::new(&mut records);
+    let mut stacks = StackPair {
+        control: Stack::new(&mut control[..control_places]),
+        results: Stack::new(&mut results[..results_places]),
+    };
+    let _ = stacks.control.push(Control::Finish(9));
+    let _ = stacks.control.push(Control::Finish(9));
+    let number = match begin(&program, &mut stacks, &sheet, limit) {
         Ok(running) => {
             running.give_up();
             0
         }
         Err(refusal) => refusal.number(),
     };
-    (number, machine.stacks.control.len())
+    (number, stacks.control.len())
 }
 
 // The program needs two places on either stack.

@@ -6,8 +6,10 @@ use machine::run::{Progress, Running, TurnedDown};
 use semantics::item::{Control, Item};
 use sheet::record::Record;
 use sheet::sheet::Sheet;
+use stack::stack::Stack;
 use table::program::Program;
 use transition::machine::Machine;
+use transition::pair::StackPair;
 
 /// l3 := 7
 pub const PUT_SEVEN: [u32; 8] = [0, 7, 0, 0, 8, 3, 0, 0];
@@ -69,10 +71,18 @@ pub fn run(words: &[u32], records: &mut [Record], limit: u32, slice: u32) -> Tol
     }
     let mut control = [Control::Whole(0); 16];
     let mut results = [Item::Row(0); 16];
+    let mut stacks = StackPair {
+        control: Stack::new(&mut control),
+        results: Stack::new(&mut results),
+    };
     let mut sheet = Sheet::new(records);
-    let mut machine = Machine::new(&mut control, &mut results, &mut sheet);
-    match begin(&program, &mut machine.stacks, &*machine.store, limit) {
-        Ok(running) => on(running, &program, &mut machine, slice),
-        Err(refusal) => (refusal.number(), 0, 0, 0),
-    }
+    let running = match begin(&program, &mut stacks, &sheet, limit) {
+        Ok(running) => running,
+        Err(refusal) => return (refusal.number(), 0, 0, 0),
+    };
+    let mut machine = Machine {
+        stacks,
+        store: &mut sheet,
+    };
+    on(running, &program, &mut machine, slice)
 }

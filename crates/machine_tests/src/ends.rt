@@ -5,8 +5,10 @@ use machine::run::begin::begin;
 use semantics::item::{Control, Item};
 use sheet::record::Record;
 use sheet::sheet::Sheet;
+use stack::stack::Stack;
 use table::program::Program;
 use transition::machine::Machine;
+use transition::pair::StackPair;
 
 // A run over stacks that the caller has filled: this item alone on control, two results beneath it.
 fn filled(words: &[u32], item: Control, below_top: Item, top: Item, places: usize) -> Told {
@@ -18,17 +20,23 @@ fn filled(words: &[u32], item: Control, below_top: Item, top: Item, places: usiz
     let mut results = [Item::Row(0); 4];
     let mut records = [plain(); 4];
     let mut sheet = Sheet::new(&mut records);
-    let mut machine = Machine::new(&mut control, &mut results[..places], &mut sheet);
-    match begin(&program, &mut machine.stacks, &*machine.store, 100) {
-        Ok(running) => {
-            machine.stacks.control.clear();
-            let _ = machine.stacks.control.push(item);
-            let _ = machine.stacks.results.push(below_top);
-            let _ = machine.stacks.results.push(top);
-            on(running, &program, &mut machine, 1)
-        }
-        Err(refusal) => (refusal.number(), 0, 0, 0),
-    }
+    let mut stacks = StackPair {
+        control: Stack::new(&mut control),
+        results: Stack::new(&mut results[..places]),
+    };
+    let running = match begin(&program, &mut stacks, &sheet, 100) {
+        Ok(running) => running,
+        Err(refusal) => return (refusal.number(), 0, 0, 0),
+    };
+    stacks.control.clear();
+    let _ = stacks.control.push(item);
+    let _ = stacks.results.push(below_top);
+    let _ = stacks.results.push(top);
+    let mut machine = Machine {
+        stacks,
+        store: &mut sheet,
+    };
+    on(running, &program, &mut machine, 1)
 }
 
 #[test]

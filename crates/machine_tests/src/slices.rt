@@ -4,9 +4,11 @@ use machine::run::begin::begin;
 use semantics::item::{Control, Item};
 use sheet::record::Record;
 use sheet::sheet::Sheet;
+use stack::stack::Stack;
 use std::test::Fail;
 use table::program::Program;
 use transition::machine::Machine;
+use transition::pair::StackPair;
 
 #[test]
 fn slice_of_0_moves_nothing(rt: HostRuntime) {
@@ -43,11 +45,16 @@ fn empty_stacks_have_finished(rt: HostRuntime) -> Result<(), Fail> {
     let mut results = [Item::Row(0); 0];
     let mut records = [Record::blank(); 0];
     let mut sheet = Sheet::new(&mut records);
-    let mut machine = Machine::new(&mut control, &mut results, &mut sheet);
-    let running = begin(&program, &mut machine.stacks, &*machine.store, 5).map_err(|_| Fail::new(
-        "refused",
-    ))?;
-    machine.stacks.control.clear();
+    let mut stacks = StackPair {
+        control: Stack::new(&mut control),
+        results: Stack::new(&mut results),
+    };
+    let running = begin(&program, &mut stacks, &sheet, 5).map_err(|_| Fail::new("refused"))?;
+    stacks.control.clear();
+    let mut machine = Machine {
+        stacks,
+        store: &mut sheet,
+    };
     assert_eq!(rt; on(running, &program, &mut machine, 0), (0, 0, 0, 0));
     Ok(())
 }
