@@ -1,5 +1,5 @@
 -- Beginning: the questions that got a yes, and the program alone on the stacks.
-use Rattle.std.proofs.Common.{◌≡◌, ℕ, ◌+◌, ◌≤◌, true, cond, ltb, List, [], ◌∷◌, length, Some, None, Ok, Err, Option, Result, sym, refl, ap, ◌∙◌, subst, ap₂, inl, inr, arith as linear}
+use Rattle.std.proofs.Common.{◌≡◌, ℕ, ◌+◌, ◌≤◌, true, cond, ltb, List, [], ◌∷◌, length, Some, None, Ok, Option, Result, sym, refl, ap, ◌∙◌, subst, ap₂, inl, inr, arith as linear}
 use borrow.Author.Tests.{lt-true}
 use Rattle.std.proofs.lemmas.Bool.Decides.{leb_tells}
 use Rattle.cells.specs.declared.cell.Cell.TheVariants.{Unknown}
@@ -19,10 +19,9 @@ use Rattle.runs.specs.Histories.{largest_limit, Admits}
 use Rattle.stack.specs.declared.stack.NoRoom.{NoRoom}
 use Rattle.stack.specs.Contents.{where_room}
 use Rattle.std.specs.Result.{IsOk}
-use Rattle.machine.specs.declared.run.Running.{Running}
 use Rattle.machine.specs.declared.run.BeginRefusal.{BeginRefusal}
 use Rattle.machine.specs.declared.run.BeginRefusal.TheVariants as no
-use Rattle.machine.specs.Begins.{first_no, Begins, begins, refuses}
+use Rattle.machine.specs.Begins.{first_no, Begins, begins}
 
 -- an emptied stack with a place takes an item, which stands alone on it
 module _ {A : Type 0} (c : List A) (k k' : ℕ) (le : 1 ≤ k) (none : c ≡ []) (same : k' ≡ k) where
@@ -65,9 +64,6 @@ pub takes_one : (table : List ℕ) → Loaded table → (k h limit : ℕ) → No
 takes_one table loaded k h limit e = omega (linear, place_for_one table loaded, (admitted table k h limit e).control)
 
 module _ (table : List ℕ) (k h limit : ℕ) (c c' : List Control) (r r' : List Item) (m : Cells) where
-  pub turned_away : {e : BeginRefusal} {a : Result Running BeginRefusal} → a ≡ Err e → first_no table k h limit ≡ Some e → Begins table k h limit (conf c r m) a (conf c r m)
-  turned_away q e = subst (λ a. Begins table k h limit (conf c r m) a (conf c r m)) (sym q) (refuses e)
-
   pub starts : None ≡ first_no table k h limit → c' ≡ Whole (last_row table) ∷ [] → r' ≡ [] →
       Begins table k h limit (conf c r m) (Ok (record { count = 0; limit = limit })) (conf c' r' m)
   starts e ec er =

@@ -33,6 +33,7 @@ fn ask(program: &Program<'_>, stacks: &StackPair<'_>, limit: u32) -> Result<(), 
 
 /// Begins a run of the program over the store's cells: both stacks are emptied, and the control stack
 /// gets the last row, whole. After a no nothing is changed.
+#[tactic(auto, using(crate::specs::Begins::refuses))]
 pub fn begin<S: Store>(
     program: &Program<'_>,
     stacks: &mut StackPair<'_>,

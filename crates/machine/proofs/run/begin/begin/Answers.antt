@@ -1,16 +1,10 @@
-use Rattle.std.proofs.Common.{◌≡◌, ◌≤◌, [], ◌∷◌, Err, sym, ap, ◌∙◌, rules}
+use Rattle.std.proofs.Common.{◌≤◌, [], ◌∷◌, sym, ap, ◌∙◌}
 use Rattle.table.specs.Places.{table_of}
 use Rattle.table.proofs.Held.{held}
 use Rattle.stack.specs.Contents.{contents, places}
 use Rattle.semantics.specs.declared.item.Control.TheVariants.{Whole}
-use Rattle.machine.proofs.Begun.{alone, last, starts, takes, takes_one, turned_away}
+use Rattle.machine.proofs.Begun.{alone, last, starts, takes, takes_one}
 use Rattle.machine.proofs.run.begin.begin.Goals as goal
-
-pub returns-in_err-ask-clause-begins : goal.returns-in_err-ask-clause-begins
-returns-in_err-ask-clause-begins g c =
-    let stacks = c.args.stacks.now in
-    let told : c.from_residual.result ≡ Err c.in_err-ask.field-0.0 = search rules in
-    turned_away (table_of c.args.program.now) _ _ _ (contents stacks.control) (contents stacks.control) (contents stacks.results) (contents stacks.results) (g.S.Store.cells c.args.store.now) told c.in_err-ask.ensures
 
 pub unwrap-requires : goal.unwrap-requires
 unwrap-requires g c =
