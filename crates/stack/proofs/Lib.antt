@@ -1,2 +1,3 @@
 mod Drops
+mod Laid
 pub mod Room

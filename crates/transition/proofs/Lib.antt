@@ -1,4 +1,3 @@
 pub mod Kept
-mod Lifts
 mod Simulated
 mod Tries

@@ -14,18 +14,26 @@ use semantics::item::Control;
 use store::store::Store;
 use table::program::Program;
 
-impl<S: Store> Machine<'_, '_, S> {
+impl<S: Store> Machine<'_, '_, '_, S> {
     // The transition, if there is one.
     fn attempt(&mut self, program: &Program<'_>) -> Result<(), Stop>
         ensures { Stepped S.cells S.rests (step_of (room self.old.stacks) (row_at (table_of program.now)) (S.cells self.old.store.now) (stacks self.old.stacks)) self.old self.new result }
     {
-        match self.stacks.control.top().ok_or(Stop::Stuck)? {
+        // Not `ok_or` and `?`: with these the compiler tells the rows' kinds apart twice at every transition.
+        let Some(item) = self.stacks.control.top() else {
+            return Err(Stop::Stuck);
+        };
+        match item {
             Control::Whole(p) => {
-                let row = program.row(p).ok_or(Stop::Stuck)?;
+                let Some(row) = program.row(p) else {
+                    return Err(Stop::Stuck);
+                };
                 self.stacks.whole(p, row, &*self.store)
             }
             Control::Finish(p) => {
-                let row = program.row(p).ok_or(Stop::Stuck)?;
+                let Some(row) = program.row(p) else {
+                    return Err(Stop::Stuck);
+                };
                 self.finish(p, row)
             }
         }

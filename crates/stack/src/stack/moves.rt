@@ -114,8 +114,10 @@ impl<'a, T: Copy> Stack<'a, T> {
         ensures contents { contents self.new ≡ laid.now ++ contents self.old }
         ensures places { places self.new ≡ places self.old }
     {
-        let top = self.top - laid.len();
-        self.items[top..self.top].copy_from_slice(laid);
-        self.top = top;
+        // One by one, and no copy of a slice: where the length is known, each is then a single store.
+        for item in laid.iter().rev() {
+            self.top -= 1;
+            self.items[self.top] = *item;
+        }
     }
 }
