@@ -41,7 +41,10 @@ impl Scratch {
     }
 
     /// A machine with these stacks over that store, and the turns beside it.
-    pub fn machine<'a, S>(&'a mut self, store: &'a mut S) -> (Machine<'a, 'a, S>, &'a mut [Turn])
+    pub fn machine<'a, S>(
+        &'a mut self,
+        store: &'a mut S,
+    ) -> (Machine<'a, 'a, 'a, S>, &'a mut [Turn])
         ensures control { (contents result.0.stacks.control ≡ []) × (places result.0.stacks.control ≡ length (vecs.vec_items self.old.control)) }
         ensures results { (contents result.0.stacks.results ≡ []) × (places result.0.stacks.results ≡ length (vecs.vec_items self.old.results)) }
         ensures turns { result.1.now ≡ vecs.vec_items self.old.turns }

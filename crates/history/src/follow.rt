@@ -26,7 +26,7 @@ fn take_turn<S: Store>(
     progress: Progress,
     turn: &mut Turn,
     program: &Program<'_>,
-    machine: &mut Machine<'_, '_, S>,
+    machine: &mut Machine<'_, '_, '_, S>,
 ) -> Progress
     ensures takes { TakesTurn (table_of program.now) (places machine.old.stacks.control) (places machine.old.stacks.results) (limit_of 0 progress) (board_of progress (configuration S.cells machine.old)) turn.old turn.new (board_of result (configuration S.cells machine.new)) }
     ensures limit { limit_of (limit_of 0 progress) result ≡ limit_of 0 progress }
@@ -61,7 +61,7 @@ fn take_turns<S: Store>(
     running: Running,
     turns: &mut [Turn],
     program: &Program<'_>,
-    machine: &mut Machine<'_, '_, S>,
+    machine: &mut Machine<'_, '_, '_, S>,
 ) -> Progress
     ensures takes { TakesTurns (table_of program.now) (places machine.old.stacks.control) (places machine.old.stacks.results) running.limit (board_of (Progress.Running running) (configuration S.cells machine.old)) turns.old turns.new (board_of result (configuration S.cells machine.new)) }
     ensures limit { limit_of running.limit result ≡ running.limit }
@@ -87,7 +87,7 @@ fn pass_over(turns: &mut [Turn])
 // to.
 fn carry_out<S: Store>(
     program: &Program<'_>,
-    machine: &mut Machine<'_, '_, S>,
+    machine: &mut Machine<'_, '_, '_, S>,
     limit: u32,
     turns: &mut [Turn],
 ) -> Fate
@@ -109,7 +109,7 @@ fn carry_out<S: Store>(
 /// not begun, none is. A run that has not ended is handed back, so it cannot be let go unseen.
 pub fn follow<S: Store>(
     program: &Program<'_>,
-    machine: &mut Machine<'_, '_, S>,
+    machine: &mut Machine<'_, '_, '_, S>,
     limit: u32,
     turns: &mut [Turn],
 ) -> Fate

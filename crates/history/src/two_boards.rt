@@ -17,9 +17,9 @@ use transition::machine::Machine;
 fn follow_both<A: Store, B: Store>(
     program: &Program<'_>,
     limit: u32,
-    first: &mut Machine<'_, '_, A>,
+    first: &mut Machine<'_, '_, '_, A>,
     turns1: &mut [Turn],
-    second: &mut Machine<'_, '_, B>,
+    second: &mut Machine<'_, '_, '_, B>,
     turns2: &mut [Turn],
 ) -> (Fate, Fate)
     ensures first { Follows (table_of program.now) (places first.old.stacks.control) (places first.old.stacks.results) limit (configuration A.Store.cells first.old) turns1.old result.0 turns1.new (configuration A.Store.cells first.new) }
@@ -39,9 +39,9 @@ fn follow_both<A: Store, B: Store>(
 pub fn two_boards<A: Store, B: Store>(
     program: &Program<'_>,
     limit: u32,
-    first: &mut Machine<'_, '_, A>,
+    first: &mut Machine<'_, '_, '_, A>,
     turns1: &mut [Turn],
-    second: &mut Machine<'_, '_, B>,
+    second: &mut Machine<'_, '_, '_, B>,
     turns2: &mut [Turn],
 ) -> (Fate, Fate)
     ensures first { Follows (table_of program.now) (places first.old.stacks.control) (places first.old.stacks.results) limit (configuration A.Store.cells first.old) turns1.old result.0 turns1.new (configuration A.Store.cells first.new) }

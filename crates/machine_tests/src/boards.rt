@@ -50,7 +50,7 @@ pub fn told(progress: Progress) -> Told {
 pub fn on(
     running: Running,
     program: &Program<'_>,
-    machine: &mut Machine<'_, '_, Sheet<'_>>,
+    machine: &mut Machine<'_, '_, '_, Sheet<'_>>,
     slice: u32,
 ) -> Told {
     match go_on(running, program, machine, slice) {

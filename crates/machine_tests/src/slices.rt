@@ -58,3 +58,31 @@ fn empty_stacks_have_finished(rt: HostRuntime) -> Result<(), Fail> {
     assert_eq!(rt; on(running, &program, &mut machine, 0), (0, 0, 0, 0));
     Ok(())
 }
+
+// Stacks that are only on loan go into a pair, and come back as the run left them.
+#[test]
+fn stacks_on_loan(rt: HostRuntime) -> Result<(), Fail> {
+    let mut program = Program::new();
+    program
+        .load(&PUT_SEVEN)
+        .map_err(|_| Fail::new("not loaded"))?;
+    let mut control = [Control::Whole(0); 3];
+    let mut results = [Item::Row(0); 2];
+    let mut control = Stack::new(&mut control);
+    let mut results = Stack::new(&mut results);
+    let mut records = [plain(); 4];
+    let mut sheet = Sheet::new(&mut records);
+    let mut stacks = StackPair::of_loans(&mut control, &mut results);
+    let running = begin(&program, &mut stacks, &sheet, 9).map_err(|_| Fail::new("refused"))?;
+    stacks.hand_back(&mut control, &mut results);
+    assert_eq!(rt; (control.len(), control.places()), (1, 3));
+    let mut machine = Machine {
+        stacks: StackPair::of_loans(&mut control, &mut results),
+        store: &mut sheet,
+    };
+    assert_eq!(rt; on(running, &program, &mut machine, 3), (0, 0, 0, 3));
+    machine.stacks.hand_back(&mut control, &mut results);
+    assert_eq!(rt; (control.len(), control.places()), (0, 3));
+    assert_eq!(rt; (results.len(), results.places()), (0, 2));
+    Ok(())
+}

@@ -14,7 +14,7 @@ use semantics::fault::Cause;
 use semantics::item::{Control, Item};
 use store::store::Store;
 
-impl StackPair<'_> {
+impl StackPair<'_, '_> {
     fn arithmetic(&mut self, p: u32, operator: Operator) -> Result<(), Stop>
         ensures { Moved (λ k. arithmetic_of k p operator) self.old self.new result }
     {
@@ -84,7 +84,7 @@ fn target(row: Row) -> Option<u8>
     }
 }
 
-impl<S: Store> Machine<'_, '_, S> {
+impl<S: Store> Machine<'_, '_, '_, S> {
     // The number goes to the store, which may refuse it: then both stacks stay as they are.
     fn assign(&mut self, p: u32, location: u8) -> Result<(), Stop>
         requires { 1 ≤ length (contents self.old.stacks.control) }

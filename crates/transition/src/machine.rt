@@ -11,18 +11,18 @@ use stack::stack::Stack;
 /// of them again over the next loan.
 // The program stands beside a machine and not in it, since two machines of one promise have one program.
 #[derive(Drop)]
-pub struct Machine<'s, 'm, S> {
-    pub stacks: StackPair<'s>,
+pub struct Machine<'c, 'r, 'm, S> {
+    pub stacks: StackPair<'c, 'r>,
     pub store: &'m mut S,
 }
 
-impl<'s, 'm, S> Machine<'s, 'm, S> {
+impl<'c, 'r, 'm, S> Machine<'c, 'r, 'm, S> {
     /// A machine over that store. Its stacks are empty, and their places those of the lent slices.
     pub fn new(
-        control: &'s mut [Control],
-        results: &'s mut [Item],
+        control: &'c mut [Control],
+        results: &'r mut [Item],
         store: &'m mut S,
-    ) -> Machine<'s, 'm, S>
+    ) -> Machine<'c, 'r, 'm, S>
         ensures control { (contents result.stacks.control ≡ []) × (places result.stacks.control ≡ length control.old) }
         ensures results { (contents result.stacks.results ≡ []) × (places result.stacks.results ≡ length results.old) }
         ensures store { result.store.now ≡ store.old }

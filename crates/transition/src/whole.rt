@@ -8,7 +8,7 @@ use semantics::fault::Cause;
 use semantics::item::{Control, Item};
 use store::store::Store;
 
-impl StackPair<'_> {
+impl StackPair<'_, '_> {
     // The value of the cell at the location. Room for it is asked for first.
     fn read<S: Store>(&mut self, p: u32, location: u8, store: &S) -> Result<(), Stop>
         ensures { Moved (λ k. read_of k (S.cells store.now) p location) self.old self.new result }

@@ -19,7 +19,7 @@ use transition::machine::Machine;
 // run is not over after the slice.
 fn whole_run<S: Store>(
     program: &Program<'_>,
-    machine: &mut Machine<'_, '_, S>,
+    machine: &mut Machine<'_, '_, '_, S>,
     limit: u32,
 ) -> Option<Ended>
     ensures tells { Tells (table_of program.now) (places machine.old.stacks.control) (places machine.old.stacks.results) limit (S.cells machine.old.store.now) (S.cells machine.new.store.now) result }

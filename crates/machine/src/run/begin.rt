@@ -16,7 +16,7 @@ use transition::pair::StackPair;
 pub const LARGEST_LIMIT: u32 = 1_000_000_000;
 
 // Puts the questions in their order, and stops at the first no.
-fn ask(program: &Program<'_>, stacks: &StackPair<'_>, limit: u32) -> Result<(), BeginRefusal>
+fn ask(program: &Program<'_>, stacks: &StackPair<'_, '_>, limit: u32) -> Result<(), BeginRefusal>
     ensures { MatchResult result (λ _. first_no (table_of program.now) (places stacks.now.control) (places stacks.now.results) limit ≡ None) (λ e. first_no (table_of program.now) (places stacks.now.control) (places stacks.now.results) limit ≡ Some e) }
 {
     let needs = program.needs();
@@ -36,7 +36,7 @@ fn ask(program: &Program<'_>, stacks: &StackPair<'_>, limit: u32) -> Result<(), 
 #[tactic(auto, using(crate::specs::Begins::refuses))]
 pub fn begin<S: Store>(
     program: &Program<'_>,
-    stacks: &mut StackPair<'_>,
+    stacks: &mut StackPair<'_, '_>,
     store: &S,
     limit: u32,
 ) -> Result<Running, BeginRefusal>

@@ -21,14 +21,14 @@ use transition::pair::StackPair;
 pub const LARGEST_SLICE: u32 = 1_000_000;
 
 // Both stacks are empty.
-fn finished(stacks: &StackPair<'_>) -> bool
+fn finished(stacks: &StackPair<'_, '_>) -> bool
     ensures { result ≡ none_left (contents stacks.now.control) (contents stacks.now.results) }
 {
     stacks.control.view().is_empty() && stacks.results.view().is_empty()
 }
 
 // The look before a transition: how the run ends in place of it, if it does.
-fn look(stacks: &StackPair<'_>, made: u32, limit: u32) -> Option<End>
+fn look(stacks: &StackPair<'_, '_>, made: u32, limit: u32) -> Option<End>
     ensures { result ≡ seen (none_left (contents stacks.now.control) (contents stacks.now.results)) made limit }
 {
     if finished(stacks) {
@@ -44,7 +44,7 @@ fn look(stacks: &StackPair<'_>, made: u32, limit: u32) -> Option<End>
 fn serve<S: Store>(
     running: Running,
     program: &Program<'_>,
-    machine: &mut Machine<'_, '_, S>,
+    machine: &mut Machine<'_, '_, '_, S>,
     slice: u32,
 ) -> Progress
     ensures serves { Serves (row_at (table_of program.now)) (places machine.old.stacks.control) (places machine.old.stacks.results) running.limit slice running.count (configuration S.cells machine.old) (board_of result (configuration S.cells machine.new)) }
@@ -79,7 +79,7 @@ fn serve<S: Store>(
 pub fn go_on<S: Store>(
     running: Running,
     program: &Program<'_>,
-    machine: &mut Machine<'_, '_, S>,
+    machine: &mut Machine<'_, '_, '_, S>,
     slice: u32,
 ) -> Result<Progress, TurnedDown>
     ensures goes { GoesOn (row_at (table_of program.now)) (places machine.old.stacks.control) (places machine.old.stacks.results) running.limit slice running.count (configuration S.cells machine.old) (board_after result (configuration S.cells machine.new)) }
